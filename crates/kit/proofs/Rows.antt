@@ -1,0 +1,87 @@
+-- Worked rows of the definitions, which compute.
+use Rattle.std.proofs.Common.{◌≡◌, true, false, [], ◌∷◌, codes, Some, None, refl}
+use Rattle.std.specs.Prelude.{map, replicate}
+use Rattle.kit.specs.Letters.{lowered, same_name}
+use Rattle.kit.specs.Reading.{read_as}
+use Rattle.kit.specs.Lines.{raw_lines, content, lines}
+use Rattle.kit.specs.Ids.{is_id}
+use Rattle.kit.specs.Addresses.{is_addr}
+
+lines_of_four_kinds : lines (codes "a\r\nb\n\nc\r") ≡ record { start = 0; end = 1; next = 3 } ∷ record { start = 3; end = 4; next = 5 }
+    ∷ record { start = 5; end = 5; next = 6 } ∷ record { start = 6; end = 8; next = 8 } ∷ []
+lines_of_four_kinds = refl
+
+contents_of_four_kinds : map content (raw_lines (codes "a\r\nb\n\nc\r")) ≡ codes "a" ∷ codes "b" ∷ [] ∷ codes "c\r" ∷ []
+contents_of_four_kinds = refl
+
+content_empty : content (codes "\r\n") ≡ []
+content_empty = refl
+
+lines_of_nothing : lines [] ≡ []
+lines_of_nothing = refl
+
+content_keeps_one_cr : content (codes "a\r\r\n") ≡ codes "a\r"
+content_keeps_one_cr = refl
+
+id_plain : read_as is_id (codes "a@b") ≡ Some (codes "a@b")
+id_plain = refl
+
+id_empty : read_as is_id [] ≡ None
+id_empty = refl
+
+id_longest : is_id (replicate 998 33) ≡ true
+id_longest = refl
+
+id_too_long : is_id (replicate 999 33) ≡ false
+id_too_long = refl
+
+id_in_brackets : is_id (codes "<a@b>") ≡ false
+id_in_brackets = refl
+
+id_with_space : is_id (codes "a @b") ≡ false
+id_with_space = refl
+
+addr_plain : is_addr (codes "bob@x.org") ≡ true
+addr_plain = refl
+
+addr_longest : is_addr (97 ∷ 64 ∷ replicate 252 97) ≡ true
+addr_longest = refl
+
+addr_too_long : is_addr (97 ∷ 64 ∷ replicate 253 97) ≡ false
+addr_too_long = refl
+
+addr_no_domain : is_addr (codes "ab@") ≡ false
+addr_no_domain = refl
+
+addr_short : is_addr (codes "a@") ≡ false
+addr_short = refl
+
+addr_no_name : is_addr (codes "@ab") ≡ false
+addr_no_name = refl
+
+addr_two_ats : is_addr (codes "a@b@c") ≡ false
+addr_two_ats = refl
+
+addr_colon : is_addr (codes "a:b@c") ≡ false
+addr_colon = refl
+
+addr_colon_in_literal : is_addr (codes "a@[x:y]") ≡ true
+addr_colon_in_literal = refl
+
+addr_colon_in_open_literal : is_addr (codes "a@[x:y") ≡ true
+addr_colon_in_open_literal = refl
+
+addr_colon_behind_literal : is_addr (codes "a@[x]:y") ≡ false
+addr_colon_behind_literal = refl
+
+addr_capital : is_addr (codes "Bob@x.org") ≡ false
+addr_capital = refl
+
+addr_lowered : read_as is_addr (lowered (codes "BOB@X.Org")) ≡ Some (codes "bob@x.org")
+addr_lowered = refl
+
+name_same : same_name (codes "MESSAGE-id") (codes "Message-ID") ≡ true
+name_same = refl
+
+name_other : same_name (codes "Message-ID") (codes "Message_ID") ≡ false
+name_other = refl

@@ -1,0 +1,5 @@
+pub mod Letters
+pub mod Reading
+pub mod Lines
+pub mod Ids
+pub mod Addresses

@@ -1,0 +1,22 @@
+//! What every other crate stands on: want of memory, bytes that own their memory, texts, message ids,
+//! mail addresses, the lines of bytes, and a count of steps. A contract sees bytes, a text, an id and
+//! an address as its list of bytes.
+#![tactic(auto)]
+
+mod addr;
+mod bytes;
+mod id;
+mod letters;
+mod line;
+mod memory;
+mod steps;
+mod text;
+
+pub use addr::Addr;
+pub use bytes::Bytes;
+pub use id::Id;
+pub use letters::{lower, same_name};
+pub use line::{Line, lines};
+pub use memory::Memory;
+pub use steps::Steps;
+pub use text::Text;
