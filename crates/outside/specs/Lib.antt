@@ -1,0 +1,10 @@
+-- The words of the devices' clauses.
+pub mod Causes
+pub mod Bytes
+pub mod Places
+pub mod Lent
+pub mod Schedule
+pub mod MemorySource
+pub mod MemorySink
+pub mod FileSource
+pub mod FileSink
