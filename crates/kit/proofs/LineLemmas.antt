@@ -2,7 +2,7 @@
 use Rattle.std.proofs.Common.{◌≡◌, ℕ, zero, suc, ◌+◌, ◌-◌, ◌≤◌, true, false, ◌==◌, List, [], ◌∷◌, ◌++◌, length, take, drop, refl, ap, ◌∙◌, arith, append_assoc, length-append}
 use Rattle.std.specs.Prelude.{All, map, if◌then◌else◌}
 use Rattle.std.specs.List.{concat}
-use Rattle.std.proofs.lemmas.List.{length-take, take-append-le, take_min}
+use Rattle.std.proofs.lemmas.List.{length-take, take-append-le, take_all, take_min}
 use Rattle.std.proofs.Math.Seq.{drop-append_seam}
 use Rattle.kit.specs.declared.line.Line.{Line}
 use Rattle.kit.specs.Lines.{put_before, raw_lines, content, ending_len, placed, lines}
@@ -59,3 +59,23 @@ parts_placed front (l ∷ ls) =
 -- the bytes of each line are the content of its raw line
 pub map-part-lines : (bytes : List ℕ) → map (part bytes) (lines bytes) ≡ map content (raw_lines bytes)
 map-part-lines bytes = rw concat-raw_lines at (parts_placed [] (raw_lines bytes))
+
+-- the bytes from where a line begins to where the next one does
+abbrev pub raw_part : List ℕ → Line → List ℕ
+raw_part bytes line = take (line.next - line.start) (drop line.start bytes)
+
+first_raw_part : (front l rest : List ℕ) → take (length front + length l - length front) (drop (length front) (front ++ (l ++ rest))) ≡ l
+first_raw_part front l rest =
+    let len : length front + length l - length front ≡ length l = omega arith in
+    rw (len, drop-append_seam, take-append-le (length l) l rest (omega arith)) (take_all (length l) l (omega arith))
+
+raw_parts_placed : (front : List ℕ) (ls : List (List ℕ)) → map (raw_part (front ++ concat ls)) (placed (length front) ls) ≡ ls
+raw_parts_placed front [] = refl
+raw_parts_placed front (l ∷ ls) =
+    let first = first_raw_part front l (concat ls) in
+    let rest = rw (append_assoc front l (concat ls), length-append front l) at (raw_parts_placed (front ++ l) ls) in
+    rw (first, rest) refl
+
+-- the bytes of each line with those that end it are its raw line
+pub map-raw_part-lines : (bytes : List ℕ) → map (raw_part bytes) (lines bytes) ≡ raw_lines bytes
+map-raw_part-lines bytes = rw concat-raw_lines at (raw_parts_placed [] (raw_lines bytes))

@@ -1,4 +1,4 @@
-// What stands where no device is lent.
+//! What stands where no device is lent.
 ghost use Rattle.std.specs.Prelude.{◌≡◌, [], IsErr, Some};
 ghost use Rattle.outside.specs.Causes.{HasCause};
 

@@ -1,4 +1,4 @@
-// The time of day.
+//! The time of day.
 ghost use Rattle.std.specs.Prelude.{◌≡◌, ◌≤◌, ℕ, IfSome};
 ghost use Rattle.std.specs.declared.option.Option.{Option};
 

@@ -1,4 +1,4 @@
-// A clock in memory.
+//! A clock in memory.
 ghost use Rattle.std.specs.Prelude.{◌≡◌, ◌≤◌, IfSome, Some};
 ghost use Rattle.outside.specs.declared.clock.TheConstants.{LAST_MOMENT};
 

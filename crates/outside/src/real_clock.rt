@@ -1,4 +1,4 @@
-// The clock of the system.
+//! The clock of the system.
 ghost use Rattle.std.specs.Prelude.{◌≡◌, None};
 
 use crate::{Clock, LAST_MOMENT};

@@ -1,4 +1,4 @@
-// Files that are kept.
+//! Files that are kept.
 ghost use Rattle.std.specs.Prelude.{◌≤◌, ℕ, length, IfSome, None};
 ghost use Rattle.std.specs.declared.option.Option.{Option};
 ghost use Rattle.std.specs.Io.{ReadsAtMost};

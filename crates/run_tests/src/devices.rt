@@ -1,4 +1,4 @@
-// Each device once: what it gives, and a call of it that fails.
+//! Each device once: what it gives, and a call of it that fails.
 use outside::{
     Clock, Failed, FileSink, FileSource, FixedClock, LAST_MOMENT, MemorySink, MemorySource,
     NoShelf, NoSource, Place, QuietSource, RealClock, Shelf, Sink, Source,

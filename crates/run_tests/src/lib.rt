@@ -1,5 +1,7 @@
-//! Tests of what a run stands on. It has no code of its own.
+//! Tests of the devices and of whole runs. It has no code of its own.
 #![tactic(auto)]
 
 #[cfg(test)]
 mod devices;
+#[cfg(test)]
+mod runs;

@@ -1,0 +1,77 @@
+//! The program `chats`: it follows the mailbox in the working folder and prints its chats.
+#![tactic(auto)]
+
+ghost use Rattle.std.specs.Prelude.{◌≡◌, ◌<◌};
+
+use follow::{Status, run};
+use kit::{Memory, Steps, Text};
+use outside::{FileSink, FileSource, NoShelf, RealClock};
+use std::io::ErrorKind;
+use std::marker::Brand;
+use std::process::ExitCode;
+use std::rt::{Clock, Env, Files};
+use std::sync::ledger::{Blank, Ledger};
+use std::{env, fs};
+
+const MBOX: &str = "box.mbox";
+
+const STEPS: &str = "box.steps";
+
+/// The words behind the program's name. Where one of them is no text there are none, which is no command.
+fn words<R: Env + AllocGlobal>(rt: &R) -> Result<Vec<Text>, Memory> {
+    let mut words = Vec::new(rt.alloc());
+    let args = match env::args(rt) {
+        Ok(args) => args,
+        Err(fault) if fault.kind() == ErrorKind::OutOfMemory => return Err(Memory),
+        Err(_) => return Ok(words),
+    };
+    for word in args.skip(1) {
+        words.push(Text::from(word))?;
+    }
+    Ok(words)
+}
+
+/// The steps file, if it is there. Where that can't be told, a source of which each call fails.
+fn steps_file<R: Files>(rt: &R) -> Result<Option<FileSource<R::File>>, Memory> {
+    match fs::exists(rt, STEPS) {
+        Ok(false) => Ok(None),
+        Ok(true) => Ok(Some(FileSource::open(rt, STEPS)?)),
+        Err(_) => Ok(Some(FileSource::broken())),
+    }
+}
+
+/// Opens the devices and runs the words over them. `Memory` comes where there is none for the words or the devices.
+fn start<R: Files + Env + Clock + Print + AllocGlobal, L: Ledger>(
+    rt: &R,
+    blank: Blank,
+) -> Result<Status, Memory>
+    requires name { blank.name ≡ L.name }
+    requires whole { blank.parts ≡ L.parts }
+    requires some { 0 < blank.parts }
+{
+    let mut count = Steps::<L>::open(blank);
+    let words = words(rt)?;
+    let mut mbox = FileSource::open(rt, MBOX)?;
+    let mut steps = steps_file(rt)?;
+    let mut shelf = NoShelf::new();
+    let mut clock = RealClock::new(rt);
+    let mut out = FileSink::stdout(rt)?;
+    Ok(run(
+        rt.alloc(),
+        words.as_slice(),
+        &mut mbox,
+        steps.as_mut(),
+        &mut shelf,
+        &mut clock,
+        &mut out,
+        &mut count,
+    ))
+}
+
+fn main(rt: HostRuntime) -> ExitCode {
+    let status = match start::<HostRuntime, Brand>(&rt, Blank::new(1)) {
+        Ok(status) => status,
+        Err(Memory) => Status::Memory,
+    };
+    ExitCode::from(status.code())
+}

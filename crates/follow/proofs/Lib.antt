@@ -1,0 +1,17 @@
+-- Lemmas of this crate, and rows that compute.
+pub mod Arrivals
+pub mod CivilLemmas
+mod DateRows
+pub mod DigitLemmas
+pub mod Distinct
+pub mod Followed
+pub mod ListLemmas
+pub mod NineLines
+pub mod PlainBytes
+pub mod PlainCards
+pub mod Ranks
+pub mod Refused
+mod Rows
+pub mod Senders
+pub mod Sorted
+pub mod Taken

@@ -1,0 +1,12 @@
+-- What a run answers, by its words and by what its devices tell.
+pub mod Options
+pub mod Digits
+pub mod Dates
+pub mod Times
+pub mod Words
+pub mod Plain
+pub mod Mailbox
+pub mod Lists
+pub mod Texts
+pub mod Statuses
+pub mod Outcome

@@ -1,0 +1,5 @@
+use Rattle.run_tests.proofs.runs.ended.Given as goal
+
+-- the ledger that the blank was made for
+abbrev pub ghosts-run_counted : goal.ghosts-run_counted
+ghosts-run_counted a = record { name = a.blank.name; parts = a.blank.parts }
