@@ -1,6 +1,10 @@
 -- Worked rows of the definitions, which compute.
 use Rattle.std.proofs.Common.{◌≡◌, true, false, [], ◌∷◌, codes, Some, None, refl}
 use Rattle.std.specs.Prelude.{map, replicate}
+use Rattle.std.specs.Str.{is_utf8, chars}
+use Rattle.std.specs.Str.Lossy.{utf8_lossy, utf8_valid_len, utf8_error_len}
+use Rattle.kit.specs.declared.charset.Charset.TheVariants.{Utf8, Latin1, Ascii}
+use Rattle.kit.specs.Charsets.{charset_of, to_text}
 use Rattle.kit.specs.Letters.{lowered, same_name}
 use Rattle.kit.specs.Reading.{read_as}
 use Rattle.kit.specs.Lines.{raw_lines, content, lines}
@@ -85,3 +89,40 @@ name_same = refl
 
 name_other : same_name (codes "Message-ID") (codes "Message_ID") ≡ false
 name_other = refl
+
+charset_utf8 : charset_of (codes "UTF-8") ≡ Utf8
+charset_utf8 = refl
+
+charset_utf8_plain : charset_of (codes "utf8") ≡ Utf8
+charset_utf8_plain = refl
+
+charset_latin1 : charset_of (codes "Latin1") ≡ Latin1
+charset_latin1 = refl
+
+charset_latin1_long : charset_of (codes "ISO-8859-1") ≡ Latin1
+charset_latin1_long = refl
+
+charset_other : charset_of (codes "iso-8859-15") ≡ Ascii
+charset_other = refl
+
+charset_none : charset_of [] ≡ Ascii
+charset_none = refl
+
+-- é is two bytes in UTF-8
+text_latin1 : to_text Latin1 (233 ∷ []) ≡ 195 ∷ 169 ∷ []
+unfolding lib.Utf8.encode
+text_latin1 = refl
+
+-- U+FFFD is three
+text_ascii : to_text Ascii (97 ∷ 233 ∷ []) ≡ 97 ∷ 239 ∷ 191 ∷ 189 ∷ []
+unfolding lib.Utf8.encode
+text_ascii = refl
+
+text_utf8 : to_text Utf8 (195 ∷ 169 ∷ []) ≡ 195 ∷ 169 ∷ []
+unfolding utf8_lossy utf8_valid_len utf8_error_len is_utf8 chars lib.Utf8.encode
+text_utf8 = refl
+
+-- a character that is cut short becomes one U+FFFD
+text_utf8_cut : to_text Utf8 (226 ∷ 130 ∷ 97 ∷ []) ≡ 239 ∷ 191 ∷ 189 ∷ 97 ∷ []
+unfolding utf8_lossy utf8_valid_len utf8_error_len is_utf8 chars lib.Utf8.encode
+text_utf8_cut = refl

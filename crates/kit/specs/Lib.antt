@@ -3,3 +3,4 @@ pub mod Reading
 pub mod Lines
 pub mod Ids
 pub mod Addresses
+pub mod Charsets

@@ -1,10 +1,11 @@
 //! What every other crate stands on: want of memory, bytes that own their memory, texts, message ids,
-//! mail addresses, the lines of bytes, and a count of steps. A contract sees bytes, a text, an id and
+//! mail addresses, charsets, the lines of bytes, and a count of steps. A contract sees bytes, a text, an id and
 //! an address as its list of bytes.
 #![tactic(auto)]
 
 mod addr;
 mod bytes;
+mod charset;
 mod id;
 mod letters;
 mod line;
@@ -14,6 +15,7 @@ mod text;
 
 pub use addr::Addr;
 pub use bytes::Bytes;
+pub use charset::{Charset, charset_of, to_text};
 pub use id::Id;
 pub use letters::{lower, same_name};
 pub use line::{Line, lines};
