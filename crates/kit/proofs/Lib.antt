@@ -1,3 +1,3 @@
 pub mod LineLemmas
-mod RawLines
+pub mod RawLines
 mod Rows

@@ -4,3 +4,5 @@ pub mod Lines
 pub mod Ids
 pub mod Addresses
 pub mod Charsets
+pub mod White
+pub mod Cuts

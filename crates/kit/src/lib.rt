@@ -1,24 +1,28 @@
 //! What every other crate stands on: want of memory, bytes that own their memory, texts, message ids,
-//! mail addresses, charsets, the lines of bytes, and a count of steps. A contract sees bytes, a text, an id and
-//! an address as its list of bytes.
+//! mail addresses, charsets, lines and white space, and a count of steps. A contract sees bytes, a text,
+//! an id and an address as its list of bytes.
 #![tactic(auto)]
 
 mod addr;
 mod bytes;
 mod charset;
+mod cut;
 mod id;
 mod letters;
 mod line;
 mod memory;
 mod steps;
 mod text;
+mod white;
 
 pub use addr::Addr;
 pub use bytes::Bytes;
 pub use charset::{Charset, charset_of, to_text};
+pub use cut::split_once;
 pub use id::Id;
 pub use letters::{lower, same_name};
-pub use line::{Line, lines};
+pub use line::{Line, content, lines};
 pub use memory::Memory;
 pub use steps::Steps;
 pub use text::Text;
+pub use white::{is_white, trim, trim_end};

@@ -17,8 +17,9 @@ pub struct Line {
     pub next: usize,
 }
 
-/// A line without the LF that ends it, and without one CR before that.
-fn content(raw: &[u8]) -> &[u8]
+/// A line without the LF that ends it, and without one CR before that (RFC 5322, section 2.1). Takes
+/// no memory.
+pub fn content(raw: &[u8]) -> &[u8]
     ensures { result.now ≡ content raw.now }
 {
     match raw {

@@ -1,0 +1,20 @@
+//! Cutting bytes in two.
+ghost use Rattle.std.specs.Prelude.{◌≡◌, ◌==◌, ◌<◌, IfSome, length, option_map, position};
+ghost use Rattle.kit.specs.Cuts.{split_once};
+
+fn place_of(bytes: &[u8], wanted: u8) -> Option<usize>
+    ensures value { result ≡ position (λ b. b == wanted) bytes.now }
+    ensures bound { IfSome result (λ at. at < length bytes.now) }
+{
+    bytes.iter().position(|b| *b == wanted)
+}
+
+/// What stands before the first byte that is the one wanted, and what stands behind it: `None` exactly
+/// where no byte is. Takes no memory.
+pub fn split_once(bytes: &[u8], wanted: u8) -> Option<(&[u8], &[u8])>
+    ensures parts { option_map (λ p. (p.0.now, p.1.now)) result ≡ split_once bytes.now wanted }
+    ensures shorter { IfSome result (λ p. length p.1.now < length bytes.now) }
+{
+    let at = place_of(bytes, wanted)?;
+    Some((&bytes[..at], &bytes[at + 1..]))
+}
