@@ -44,7 +44,8 @@ lines_within bytes = placed_within (length bytes) 0 (raw_lines bytes) (omega (ar
 abbrev pub part : List ℕ → Line → List ℕ
 part bytes line = take (line.end - line.start) (drop line.start bytes)
 
-first_part : (front l rest : List ℕ) → take (length front + length (content l) - length front) (drop (length front) (front ++ (l ++ rest))) ≡ content l
+-- the content of a line, cut out of the bytes that it stands in
+pub first_part : (front l rest : List ℕ) → take (length front + length (content l) - length front) (drop (length front) (front ++ (l ++ rest))) ≡ content l
 first_part front l rest =
     let len : length front + length (content l) - length front ≡ length (content l) = omega arith in
     rw (len, drop-append_seam, take-append-le (length (content l)) l rest (length-content l), length-take) (take_min (length l - ending_len l) l)
