@@ -1,0 +1,4 @@
+pub mod EscapeLemmas
+pub mod Groups
+pub mod QuotedLemmas
+mod Rows

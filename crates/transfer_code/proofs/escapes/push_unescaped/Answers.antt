@@ -1,0 +1,10 @@
+use Rattle.std.proofs.Common.{sym}
+use Rattle.std.proofs.lemmas.List.{take_rest}
+use Rattle.transfer_code.proofs.EscapeLemmas.{after_escape}
+use Rattle.transfer_code.proofs.escapes.push_unescaped.Goals as goal
+
+pub loop-i-preserved-in-Some : goal.loop-i-preserved-in-Some
+loop-i-preserved-in-Some c =
+    let found = sym c.in-Some.ensures in
+    rw c.in_ok-push.ensures.items
+    (after_escape c.args.sign c.loop-i.i c.in-Some.byte c.loop-i.out.items c.args.bytes.now _ (rw take_rest at found) c.loop-i.invariant)

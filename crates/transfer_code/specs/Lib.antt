@@ -1,0 +1,5 @@
+pub mod White
+pub mod Escapes
+pub mod Quoted
+pub mod Base64
+pub mod Encodings
