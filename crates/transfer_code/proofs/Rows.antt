@@ -1,7 +1,7 @@
 -- Worked rows of the definitions, which compute.
 use Rattle.std.proofs.Common.{◌≡◌, [], ◌∷◌, ◌++◌, codes, Some, None, refl}
 use Rattle.transfer_code.specs.declared.encoding.Encoding.TheVariants.{Plain, Quoted, Base64}
-use Rattle.transfer_code.specs.White.{trim}
+use Rattle.kit.specs.White.{trim}
 use Rattle.transfer_code.specs.Escapes.{escape_in, unescaped}
 use Rattle.transfer_code.specs.Quoted.{decode_quoted}
 use Rattle.transfer_code.specs.Base64.{sextets, decode_base64}

@@ -3,7 +3,7 @@ use Rattle.std.specs.Prelude.{ℕ, if◌then◌else◌, List, codes}
 use Rattle.kit.specs.Letters.{same_name}
 use Rattle.transfer_code.specs.declared.encoding.Encoding.{Encoding}
 use Rattle.transfer_code.specs.declared.encoding.Encoding.TheVariants.{Plain, Quoted, Base64}
-use Rattle.transfer_code.specs.White.{trim}
+use Rattle.kit.specs.White.{trim}
 use Rattle.transfer_code.specs.Quoted.{decode_quoted}
 use Rattle.transfer_code.specs.Base64.{decode_base64}
 

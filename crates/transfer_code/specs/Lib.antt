@@ -1,4 +1,3 @@
-pub mod White
 pub mod Escapes
 pub mod Quoted
 pub mod Base64

@@ -2,7 +2,7 @@
 use Rattle.std.specs.Prelude.{ℕ, ◌-◌, Bool, nat_eq, nat_lt, if◌then◌else◌, List, [], ◌∷◌, ◌++◌, length, take, codes, flat_map}
 use Rattle.std.specs.List.{ends_with}
 use Rattle.kit.specs.Lines.{raw_lines, content}
-use Rattle.transfer_code.specs.White.{trim_end}
+use Rattle.kit.specs.White.{trim_end}
 use Rattle.transfer_code.specs.Escapes.{unescaped}
 
 -- whether a line break, LF or CR LF, ends a raw line

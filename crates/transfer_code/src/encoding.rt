@@ -4,8 +4,7 @@ ghost use Rattle.transfer_code.specs.Encodings.{encoding_named, encoding_of, dec
 
 use crate::quoted::decode_quoted;
 use crate::sextets::decode_base64;
-use crate::white::trim;
-use kit::{Memory, same_name};
+use kit::{Memory, same_name, trim};
 use std::alloc::Global;
 
 /// How the bytes of a body stand in a mail (RFC 2045, section 6).

@@ -6,7 +6,6 @@ mod encoding;
 mod escapes;
 mod quoted;
 mod sextets;
-mod white;
 
 pub use encoding::{Encoding, decode_body, encoding_of};
 pub use escapes::unescaped;

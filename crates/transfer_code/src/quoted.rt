@@ -3,8 +3,7 @@ ghost use Rattle.std.specs.Prelude.{◌≡◌, ◌++◌, IfOk, OnOk};
 ghost use Rattle.transfer_code.specs.Quoted.{decode_quoted, line_text};
 
 use crate::escapes::push_unescaped;
-use crate::white::trim_end;
-use kit::{Memory, lines};
+use kit::{Memory, lines, trim_end};
 use std::alloc::Global;
 
 /// Adds what a line stands for, of which the content is given and whether a break follows it.

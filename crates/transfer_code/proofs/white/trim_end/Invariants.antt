@@ -1,9 +1,0 @@
-use Rattle.std.proofs.Common.{◌≡◌, length}
-use Rattle.transfer_code.specs.White.{trim_end}
-use Rattle.transfer_code.proofs.white.trim_end.Given as goal
-
-abbrev pub invariant-loop-bytes : goal.invariant-loop-bytes
-invariant-loop-bytes l = trim_end l.bytes ≡ trim_end l.fn.bytes
-
-abbrev pub decreases-loop-bytes : goal.decreases-loop-bytes
-decreases-loop-bytes l = length l.bytes
