@@ -1,0 +1,5 @@
+//! Tests of the readers of a mail. It has no code of its own.
+#![tactic(auto)]
+
+#[cfg(test)]
+mod dates;
