@@ -2,7 +2,6 @@
 pub mod Arrivals
 pub mod CivilLemmas
 mod DateRows
-pub mod DigitLemmas
 pub mod Distinct
 pub mod Followed
 pub mod ListLemmas

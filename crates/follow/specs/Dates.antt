@@ -1,19 +1,11 @@
 -- The plain date of a mail: the one form that is read of those that a date may have (RFC 5322, section 3.3).
-use Rattle.std.specs.Prelude.{ℕ, ◌+◌, ◌*◌, Bool, ◌&&◌, ◌||◌, ◌==◌, nat_lt, nat_le, if◌then◌else◌, List, [], ◌∷◌, length, codes, slice_range, zip, position, Option, Some, None, ℤ, pos, negsuc}
+use Rattle.std.specs.Prelude.{ℕ, ◌+◌, ◌*◌, Bool, ◌&&◌, ◌||◌, ◌==◌, nat_lt, if◌then◌else◌, List, length, codes, slice_range, zip, Option, Some, None}
 use Rattle.std.specs.List.{list_all}
 use Rattle.std.specs.Char.{is_ascii_alphabetic}
-use Rattle.jiff_core.specs.Calendar.{days_in_month, days_from_civil}
-use Rattle.kit.specs.Letters.{same_name}
-use Rattle.follow.specs.Digits.{number}
-use Rattle.follow.specs.Options.{◌>>=◌}
-
--- the day number of 9999-12-31
-abbrev pub last_day : ℕ
-last_day = 2932896
-
--- the last second of that day, in seconds since 1970-01-01 00:00:00 UTC
-abbrev pub last_moment : ℕ
-last_moment = 253402300799
+use Rattle.mail_date.specs.Days.{day_number, natural}
+use Rattle.mail_date.specs.Digits.{number}
+use Rattle.mail_date.specs.Names.{months, place_in, weekdays}
+use Rattle.mail_date.specs.Options.{◌>>=◌}
 
 -- in a form a letter stands for any byte, and every other byte for itself
 abbrev pub fits : ℕ → ℕ → Bool
@@ -24,18 +16,6 @@ has_form form bytes = (length form == length bytes) && list_all (λ p. fits p.0 
 
 abbrev pub plain_form : List ℕ
 plain_form = codes "Www, DD Mon YYYY hh:mm:ss +0000"
-
-abbrev pub weekdays : List (List ℕ)
-weekdays = codes "Mon" ∷ codes "Tue" ∷ codes "Wed" ∷ codes "Thu" ∷ codes "Fri" ∷ codes "Sat" ∷ codes "Sun" ∷ []
-
-abbrev pub months : List (List ℕ)
-months =
-    codes "Jan" ∷ codes "Feb" ∷ codes "Mar" ∷ codes "Apr" ∷ codes "May" ∷ codes "Jun"
-    ∷ codes "Jul" ∷ codes "Aug" ∷ codes "Sep" ∷ codes "Oct" ∷ codes "Nov" ∷ codes "Dec" ∷ []
-
--- the place of a name in a table, from 0, where the case of letters does not count
-abbrev pub place_in : List (List ℕ) → List ℕ → Option ℕ
-place_in table name = position (same_name name) table
 
 -- the number of two digits, if it is below the limit
 abbrev pub number_below : ℕ → List ℕ → Option ℕ
@@ -49,16 +29,9 @@ second_of_day clock = do
   second ← number_below 60 (slice_range clock 6 8)
   Some (3600 * hour + 60 * minute + second)
 
--- the number, if it is not negative
-abbrev pub natural : ℤ → Option ℕ
-natural (pos n) = Some n
-natural (negsuc n) = None
-
 -- how many days a date lies after 1970-01-01, if its month has the day and it is no earlier
-abbrev pub day_number : ℕ → ℕ → ℕ → Option ℕ
-day_number year month day =
-    if nat_le 1 day && nat_le day (days_in_month (pos year) month)
-    then natural (days_from_civil (pos year) month day) else None
+abbrev pub days_since_1970 : ℕ → ℕ → ℕ → Option ℕ
+days_since_1970 year month day = day_number year month day >>= natural
 
 -- the moment of a plain date, in seconds since 1970-01-01 00:00:00 UTC; its weekday need not be that of the day
 unfoldable pub plain_moment : List ℕ → Option ℕ
@@ -70,6 +43,6 @@ plain_moment body = if has_form plain_form body then moment_at body else None
       day ← number 2 2 (slice_range body 5 7)
       month ← place_in months (slice_range body 8 11)
       year ← number 4 4 (slice_range body 12 16)
-      days ← day_number year (month + 1) day
+      days ← days_since_1970 year (month + 1) day
       second ← second_of_day (slice_range body 17 25)
       Some (86400 * days + second)

@@ -1,6 +1,5 @@
 -- What a run answers, by its words and by what its devices tell.
 pub mod Options
-pub mod Digits
 pub mod Dates
 pub mod Times
 pub mod Words

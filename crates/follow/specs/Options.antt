@@ -1,11 +1,6 @@
--- Steps that may give nothing.
+-- Pairs of what may be nothing.
 use Rattle.std.specs.declared.option.Option.{Option}
-use Rattle.std.specs.Prelude.{None, Some, option_and_then}
-
--- the first step that gives nothing ends it
-infixl 10 ◌>>=◌
-abbrev pub ◌>>=◌ : {A B : Type 0} → Option A → (A → Option B) → Option B
-o >>= f = option_and_then f o
+use Rattle.std.specs.Prelude.{None, Some}
 
 -- two values, where there are both
 abbrev pub both : {A B : Type 0} → Option A → Option B → Option (A × B)

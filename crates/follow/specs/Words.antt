@@ -1,8 +1,8 @@
 -- The words of the command line: exactly `--me ADDR --at N list`.
 use Rattle.std.specs.Prelude.{ℕ, ◌&&◌, nat_le, if◌then◌else◌, bytes_eq, codes, List, [], ◌∷◌, Option, Some, None, option_and_then, option_map}
+use Rattle.mail_date.specs.Days.{last_moment}
+use Rattle.mail_date.specs.Digits.{number}
 use Rattle.follow.specs.declared.words.Command.{Command}
-use Rattle.follow.specs.Dates.{last_moment}
-use Rattle.follow.specs.Digits.{number}
 use Rattle.follow.specs.Plain.{plain_address}
 
 -- a moment from 1970 to 9999, of 1 to 12 digits

@@ -1,26 +1,13 @@
 //! The plain date of a mail.
 ghost use Rattle.std.specs.Prelude.{◌≡◌, ◌<◌, ◌≤◌, length, zip, IfSome};
 ghost use Rattle.std.specs.List.{list_all};
-ghost use Rattle.follow.specs.Dates.{day_number, fits, has_form, last_day, last_moment, natural, number_below, place_in, plain_moment, second_of_day};
+ghost use Rattle.mail_date.specs.Days.{last_day, last_moment};
+ghost use Rattle.follow.specs.Dates.{days_since_1970, fits, has_form, number_below, plain_moment, second_of_day};
 
-use crate::digits::number;
-use jiff_core::civil::Date;
-use kit::same_name;
-
-/// The seconds of a day of UTC, in which leap seconds do not count.
-pub const SECONDS_PER_DAY: u64 = 86_400;
+use mail_date::{MONTHS, SECONDS_PER_DAY, WEEKDAYS, day_number, natural, number, place_in};
 
 // A letter of the form stands for any byte, and every other byte for itself.
 const FORM: &[u8; 31] = b"Www, DD Mon YYYY hh:mm:ss +0000";
-
-const WEEKDAYS: [[u8; 3]; 7] = [
-    *b"Mon", *b"Tue", *b"Wed", *b"Thu", *b"Fri", *b"Sat", *b"Sun",
-];
-
-const MONTHS: [[u8; 3]; 12] = [
-    *b"Jan", *b"Feb", *b"Mar", *b"Apr", *b"May", *b"Jun", *b"Jul", *b"Aug", *b"Sep", *b"Oct",
-    *b"Nov", *b"Dec",
-];
 
 /// The moment that a plain date names, in seconds since 1970-01-01 00:00:00 UTC. A plain date has the
 /// form `Www, DD Mon YYYY hh:mm:ss +0000` (RFC 5322, section 3.3). `None` for any other form, for a day
@@ -39,7 +26,7 @@ pub fn plain_moment(body: &[u8]) -> Option<u64>
     let day = number(2, 2, &body[5..7])?;
     let month = place_in(&MONTHS, &body[8..11])?;
     let year = number(4, 4, &body[12..16])?;
-    let days = day_number(year, month as u64 + 1, day)?;
+    let days = days_since_1970(year, month as u64 + 1, day)?;
     let second = second_of_day(&body[17..25])?;
     Some(SECONDS_PER_DAY * days + second)
 }
@@ -64,31 +51,17 @@ fn fits(place: u8, byte: u8) -> bool
     place.is_ascii_alphabetic() || place == byte
 }
 
-fn place_in(table: &[[u8; 3]], name: &[u8]) -> Option<usize>
-    ensures value { result ≡ place_in table.now name.now }
-    ensures bound { IfSome result (λ place. place < length table.now) }
-{
-    table.iter().position(|word| same_name(name, word))
-}
-
-fn day_number(year: u64, month: u64, day: u64) -> Option<u64>
+/// How many days a date lies after 1970-01-01.
+fn days_since_1970(year: u64, month: u64, day: u64) -> Option<u64>
     requires year { year < 10000 }
     requires first_month { 1 ≤ month }
     requires last_month { month ≤ 12 }
     requires day { day < 100 }
-    ensures value { result ≡ day_number year month day }
+    ensures value { result ≡ days_since_1970 year month day }
     ensures bound { IfSome result (λ days. days ≤ last_day) }
 {
-    let Ok(date) = Date::new(year as i16, month as i8, day as i8) else {
-        return None;
-    };
-    natural(date.to_unix_epoch_day())
-}
-
-fn natural(number: i32) -> Option<u64>
-    ensures { result ≡ natural number }
-{
-    u64::try_from(number).ok()
+    let day = day_number(year, month, day)?;
+    natural(i64::from(day))
 }
 
 fn second_of_day(clock: &[u8]) -> Option<u64>

@@ -3,7 +3,6 @@
 
 mod card;
 mod dates;
-mod digits;
 mod list;
 mod mail;
 mod plain;

@@ -1,12 +1,12 @@
 //! The printed time of a moment.
 ghost use Rattle.std.specs.Prelude.{◌≡◌, ◌++◌, ◌<◌, ◌≤◌, OnOk, pos, string_bytes};
 ghost use Rattle.jiff_core.specs.Date.{epoch_day, IsYmd};
-ghost use Rattle.follow.specs.Dates.{last_day, last_moment};
+ghost use Rattle.mail_date.specs.Days.{last_day, last_moment};
 ghost use Rattle.follow.specs.Times.{civil_date, date_text, clock_text, four_digits, time_text, two_digits};
 
-use crate::dates::SECONDS_PER_DAY;
 use jiff_core::civil::Date;
 use kit::Memory;
+use mail_date::SECONDS_PER_DAY;
 
 /// Appends a moment, in seconds since 1970-01-01 00:00:00 UTC and of a year up to 9999, in the form
 /// `YYYY-MM-DD HH:MM` in UTC, without its seconds. Takes memory where the text has no room for 16 more

@@ -1,11 +1,11 @@
 //! The words of the command line.
 ghost use Rattle.std.specs.Prelude.{◌≡◌, ◌≤◌, IfOk, IfSome};
-ghost use Rattle.follow.specs.Dates.{last_moment};
+ghost use Rattle.mail_date.specs.Days.{last_moment};
 ghost use Rattle.follow.specs.Words.{moment_of};
 
-use crate::digits::number;
 use crate::plain::plain_address;
 use kit::{Addr, Memory, Text};
+use mail_date::number;
 use outside::LAST_MOMENT;
 use std::alloc::Global;
 
@@ -32,7 +32,7 @@ fn moment_of(word: &[u8]) -> Option<u64>
 
 impl Command {
     ghost use Rattle.std.specs.Prelude.{◌≡◌, ◌≤◌, IfOk, IfSome};
-    ghost use Rattle.follow.specs.Dates.{last_moment};
+    ghost use Rattle.mail_date.specs.Days.{last_moment};
     ghost use Rattle.follow.specs.Words.{command};
 
     /// The command of these words, which are exactly `--me ADDR --at N list`; none where they are not. ADDR is a plain

@@ -1,9 +1,19 @@
 -- Bodies, and the moments that they name.
 use Rattle.std.proofs.Common.{◌≡◌, refl}
-use Rattle.std.specs.Prelude.{codes, Some, None}
+use Rattle.std.specs.Prelude.{codes, [], ◌∷◌, Some, None}
 use Rattle.jiff_core.specs.Calendar.{days_from_civil, day_count, days_of_years, days_of_months}
 use Rattle.mail_date.specs.Days.{last_moment}
 use Rattle.mail_date.specs.Moment.{moment}
+use Rattle.mail_date.specs.Words.{words}
+
+words_between_commas : words (codes ", a,b\t(c) ,,d") ≡ codes "a" ∷ codes "b" ∷ codes "d" ∷ []
+words_between_commas = refl
+
+words_round_comments : words (codes "a(b(c)d)e(\\)f)g") ≡ codes "a" ∷ codes "e" ∷ codes "g" ∷ []
+words_round_comments = refl
+
+words_with_stray_marks : words (codes "a)b \\(c") ≡ codes "a)b" ∷ codes "\\" ∷ []
+words_with_stray_marks = refl
 
 with_zone : moment (codes "Wed, 01 May 2024 12:00:00 +0200") ≡ Some 1714557600
 unfolding moment days_from_civil day_count days_of_years days_of_months

@@ -5,30 +5,30 @@ use Rattle.mail_date.specs.Days.{day_of, last_moment, natural}
 use Rattle.mail_date.specs.Names.{place_in, weekdays}
 use Rattle.mail_date.specs.Options.{◌>>=◌}
 use Rattle.mail_date.specs.Words.{words}
-use Rattle.mail_date.specs.Zones.{zone}
+use Rattle.mail_date.specs.Zones.{zone_offset}
 
 -- so many seconds after 1970-01-01 00:00:00 UTC, if that is in the years 1970 to 9999
-abbrev pub in_range : ℤ → Option ℕ
-in_range seconds = natural seconds >>= λ n. if nat_le n last_moment then Some n else None
+abbrev pub as_moment : ℤ → Option ℕ
+as_moment seconds = natural seconds >>= λ n. if nat_le n last_moment then Some n else None
 
 -- a weekday in front is passed over
-abbrev pub dated : List (List ℕ) → List (List ℕ)
-dated [] = []
-dated (word ∷ more) = if is_some (place_in weekdays word) then more else word ∷ more
+abbrev pub without_weekday : List (List ℕ) → List (List ℕ)
+without_weekday [] = []
+without_weekday (word ∷ more) = if is_some (place_in weekdays word) then more else word ∷ more
 
--- how far the first of the words, if there is one, is ahead of UTC as a zone
-abbrev pub ahead : List (List ℕ) → ℤ
-ahead [] = pos 0
-ahead (word ∷ more) = zone word
+-- by how many seconds the zone that the next word names is ahead of UTC, and 0 where no word is left
+abbrev pub next_offset : List (List ℕ) → ℤ
+next_offset [] = pos 0
+next_offset (word ∷ more) = zone_offset word
 
 -- a day, a month, a year and a time, then maybe a zone, then anything
-abbrev pub moment_at : List (List ℕ) → Option ℕ
-moment_at (day ∷ month ∷ year ∷ clock ∷ more) = do
+abbrev pub moment_of_words : List (List ℕ) → Option ℕ
+moment_of_words (day ∷ month ∷ year ∷ clock ∷ more) = do
   days ← day_of day month year
   second ← second_of_day clock
-  in_range (((pos 86400 *ℤ days) +ℤ pos second) -ℤ ahead more)
-moment_at _ = None
+  as_moment (((pos 86400 *ℤ days) +ℤ pos second) -ℤ next_offset more)
+moment_of_words _ = None
 
 -- the moment, in seconds since 1970-01-01 00:00:00 UTC; the weekday need not be that of the day
 unfoldable pub moment : List ℕ → Option ℕ
-moment body = moment_at (dated (words body))
+moment body = moment_of_words (without_weekday (words body))

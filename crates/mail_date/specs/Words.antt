@@ -2,22 +2,22 @@
 use Rattle.std.specs.Prelude.{ℕ, ◌+◌, ◌-◌, Bool, false, not, ◌&&◌, ◌||◌, ◌==◌, nat_lt, if◌then◌else◌, List, [], ◌∷◌, length, filter}
 use Rattle.std.specs.List.{slice_split}
 
--- How many comments are open behind a byte, if so many were open before it: `(` (40) opens one and `)` (41) closes one,
--- but not where the flag says that a backslash makes the byte part of a pair.
+-- How many comments are open behind a byte, if so many are open before it: `(` (40) opens one and `)` (41) closes one,
+-- unless the flag says that the byte is the second of a pair.
 abbrev pub depth_behind : ℕ → Bool → ℕ → ℕ
 depth_behind depth pair b =
     if pair then depth else if b == 40 then depth + 1 else if b == 41 then depth - 1 else depth
 
--- whether the byte makes a pair with the one behind it: a backslash (92) in a comment does, which is not itself the second of a pair
+-- whether the next byte is the second of a pair: behind a backslash (92) in a comment it is, unless that is a second one itself
 abbrev pub pair_behind : ℕ → Bool → ℕ → Bool
 pair_behind depth pair b = nat_lt 0 depth && not pair && (b == 92)
 
 -- the bytes with a space (32) for each byte of a comment, if so many comments are open before them
-abbrev pub blanked : ℕ → Bool → List ℕ → List ℕ
-blanked depth pair [] = []
-blanked depth pair (b ∷ bs) =
+abbrev pub without_comments : ℕ → Bool → List ℕ → List ℕ
+without_comments depth pair [] = []
+without_comments depth pair (b ∷ bs) =
     (if (depth == 0) && not (b == 40) then b else 32)
-    ∷ blanked (depth_behind depth pair b) (pair_behind depth pair b) bs
+    ∷ without_comments (depth_behind depth pair b) (pair_behind depth pair b) bs
 
 -- space, tab or comma
 abbrev pub is_separator : ℕ → Bool
@@ -33,4 +33,4 @@ pieces bytes = filter (λ piece. nat_lt 0 (length piece)) (slice_split is_separa
 
 -- the words of a body, in which comments are white space (RFC 5322, section 3.2.2)
 abbrev pub words : List ℕ → List (List ℕ)
-words body = pieces (blanked 0 false body)
+words body = pieces (without_comments 0 false body)

@@ -2,19 +2,19 @@
 ghost use Rattle.std.specs.Prelude.{◌≡◌, ◌<◌, ◌≤◌, ◌+ℤ◌, ◌-ℤ◌, ◌*ℤ◌, IfSome, pos};
 ghost use Rattle.jiff_core.specs.Calendar.{IsEpochDay, IsWithin};
 ghost use Rattle.mail_date.specs.Days.{last_moment};
-ghost use Rattle.mail_date.specs.Moment.{ahead, in_range, moment};
+ghost use Rattle.mail_date.specs.Moment.{as_moment, moment, next_offset};
 ghost use Rattle.mail_date.specs.Words.{words as words_of};
 
 use crate::clock::second_of_day;
 use crate::days::{SECONDS_PER_DAY, day_of, natural};
 use crate::words::Words;
-use crate::zones::zone;
+use crate::zones::zone_offset;
 
 /// The last second of the year 9999.
 const LAST_MOMENT: u64 = 253_402_300_799;
 
-fn in_range(seconds: i64) -> Option<u64>
-    ensures value { result ≡ in_range seconds }
+fn as_moment(seconds: i64) -> Option<u64>
+    ensures value { result ≡ as_moment seconds }
     ensures bound { IfSome result (λ moment. moment ≤ last_moment) }
 {
     natural(seconds).filter(|moment| *moment <= LAST_MOMENT)
@@ -30,12 +30,12 @@ fn seconds_at(days: i32, second: u64, ahead: i64) -> i64
     SECONDS_PER_DAY as i64 * i64::from(days) + second as i64 - ahead
 }
 
-/// How far the next word, if there is one, is ahead of UTC as a zone.
-fn ahead(words: &mut Words) -> i64
-    ensures value { result ≡ ahead (words_of words.old.rest.now) }
+/// By how many seconds the zone that the next word names is ahead of UTC, and 0 where no word is left.
+fn next_offset(words: &mut Words) -> i64
+    ensures value { result ≡ next_offset (words_of words.old.rest.now) }
     ensures bound { IsWithin 359940 result }
 {
-    words.next().map_or(0, zone)
+    words.next().map_or(0, zone_offset)
 }
 
 /// The moment that the body of a Date field names, in seconds since 1970-01-01 00:00:00 UTC (RFC 5322,
@@ -54,5 +54,5 @@ pub fn moment(body: &[u8]) -> Option<u64>
     let clock = words.next()?;
     let days = day_of(day, month, year)?;
     let second = second_of_day(clock)?;
-    in_range(seconds_at(days, second, ahead(&mut words)))
+    as_moment(seconds_at(days, second, next_offset(&mut words)))
 }

@@ -1,5 +1,5 @@
-//! The moment that a Date field of a mail names (RFC 5322, sections 3.3 and 4.3), and the numbers, names and days that
-//! dates are made of.
+//! The moment that a Date field of a mail names (RFC 5322, sections 3.3 and 4.3), and the numbers,
+//! names and days that dates are made of.
 #![tactic(auto)]
 
 mod clock;

@@ -16,6 +16,7 @@ fn ends_word(byte: u8) -> bool
     is_separator(byte) || byte == b'('
 }
 
+/// How many comments are open behind a byte, which may be the second of a pair.
 fn depth_behind(depth: usize, pair: bool, byte: u8) -> usize
     requires { depth < 2 ^ 63 }
     ensures { result ≡ depth_behind depth pair byte }
@@ -27,6 +28,7 @@ fn depth_behind(depth: usize, pair: bool, byte: u8) -> usize
     }
 }
 
+/// Whether the byte behind is the second of a pair: behind a backslash in a comment it is.
 fn pair_behind(depth: usize, pair: bool, byte: u8) -> bool
     ensures { result ≡ pair_behind depth pair byte }
 {
@@ -35,8 +37,11 @@ fn pair_behind(depth: usize, pair: bool, byte: u8) -> bool
 
 /// The bytes from their first word on, if they have a word.
 fn from_word(bytes: &[u8]) -> Option<&[u8]>
-    ensures same { MatchOption result (words bytes.now ≡ []) (λ rest. words rest.now ≡ words bytes.now) }
-    ensures word { IfSome result (λ rest. (0 < length rest.now) × IsFalse (ends_word (slice_index rest.now 0))) }
+    ensures same { MatchOption result
+        (words bytes.now ≡ [])
+        (λ rest. words rest.now ≡ words bytes.now) }
+    ensures some { IfSome result (λ rest. 0 < length rest.now) }
+    ensures word { IfSome result (λ rest. IsFalse (ends_word (slice_index rest.now 0))) }
 {
     let mut depth = 0;
     let mut pair = false;
@@ -75,11 +80,11 @@ pub struct Words<'a> {
 
 impl<'a> Words<'a> {
     ghost use Rattle.std.specs.Prelude.{◌≡◌, [], ◌∷◌, MatchOption};
-    ghost use Rattle.mail_date.specs.Moment.{dated};
+    ghost use Rattle.mail_date.specs.Moment.{without_weekday};
     ghost use Rattle.mail_date.specs.Words.{words};
 
     pub fn of(body: &'a [u8]) -> Self
-        ensures { words result.rest.now ≡ words body.now }
+        ensures { result.rest.now ≡ body.now }
     {
         Words { rest: body }
     }
@@ -98,8 +103,8 @@ impl<'a> Words<'a> {
     /// The next word, or the one behind it where that is a weekday.
     pub fn next_but_weekday(&mut self) -> Option<&'a [u8]>
         ensures { MatchOption result
-            (dated (words self.old.rest.now) ≡ [])
-            (λ word. dated (words self.old.rest.now) ≡ word.now ∷ words self.new.rest.now) }
+            (without_weekday (words self.old.rest.now) ≡ [])
+            (λ word. without_weekday (words self.old.rest.now) ≡ word.now ∷ words self.new.rest.now) }
     {
         let word = self.next()?;
         if place_in(&WEEKDAYS, word).is_some() {

@@ -1,28 +1,37 @@
 //! Zones, by the seconds that they are ahead of UTC.
 ghost use Rattle.std.specs.Prelude.{◌≡◌, ◌≤◌, IfSome, pos, neg_ℤ};
 ghost use Rattle.jiff_core.specs.Calendar.{IsWithin};
-ghost use Rattle.mail_date.specs.Zones.{behind, hours_and_minutes, offset, zone};
+ghost use Rattle.mail_date.specs.Zones.{hours_and_minutes, offset, seconds_behind, zone_hours, zone_offset};
 
 use crate::digits::number;
-use crate::names::place_in;
+use kit::same_name;
 
-/// The zones that are behind UTC, by name (RFC 5322, section 4.3).
-const ZONE_NAMES: [[u8; 3]; 8] = [
-    *b"EDT", *b"EST", *b"CDT", *b"CST", *b"MDT", *b"MST", *b"PDT", *b"PST",
+/// The zones of North America, and by how many hours each is behind UTC (RFC 5322, section 4.3).
+const ZONES: [([u8; 3], u64); 8] = [
+    (*b"EDT", 4),
+    (*b"EST", 5),
+    (*b"CDT", 5),
+    (*b"CST", 6),
+    (*b"MDT", 6),
+    (*b"MST", 7),
+    (*b"PDT", 7),
+    (*b"PST", 8),
 ];
 
-/// By how many hours each of them is.
-const ZONE_HOURS: [u64; 8] = [4, 5, 5, 6, 6, 7, 7, 8];
+fn zone_hours(name: &[u8]) -> Option<u64>
+    ensures value { result ≡ zone_hours name.now }
+    ensures bound { IfSome result (λ hours. hours ≤ 8) }
+{
+    let (_, hours) = ZONES.iter().find(|(zone, _)| same_name(name, zone))?;
+    Some(*hours)
+}
 
 /// By how many seconds the zone of a name is behind UTC: 0 for a name that is not in the table.
-fn behind(name: &[u8]) -> u64
-    ensures value { result ≡ behind name.now }
+fn seconds_behind(name: &[u8]) -> u64
+    ensures value { result ≡ seconds_behind name.now }
     ensures bound { result ≤ 28800 }
 {
-    match place_in(&ZONE_NAMES, name) {
-        Some(place) => 3600 * ZONE_HOURS[place],
-        None => 0,
-    }
+    3600 * zone_hours(name).unwrap_or(0)
 }
 
 /// The seconds of hhmm.
@@ -47,8 +56,8 @@ fn offset(digits: &[u8]) -> u64
 }
 
 /// By how many seconds the zone that a word names is ahead of UTC: 0 for a word that names none.
-pub fn zone(word: &[u8]) -> i64
-    ensures value { result ≡ zone word.now }
+pub fn zone_offset(word: &[u8]) -> i64
+    ensures value { result ≡ zone_offset word.now }
     ensures bound { IsWithin 359940 result }
 {
     if let Some(digits) = word.strip_prefix(b"+") {
@@ -57,5 +66,5 @@ pub fn zone(word: &[u8]) -> i64
     if let Some(digits) = word.strip_prefix(b"-") {
         return -(offset(digits) as i64);
     }
-    -(behind(word) as i64)
+    -(seconds_behind(word) as i64)
 }
