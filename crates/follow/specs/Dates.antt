@@ -5,7 +5,7 @@ use Rattle.std.specs.Char.{is_ascii_alphabetic}
 use Rattle.mail_date.specs.Days.{day_number, natural}
 use Rattle.mail_date.specs.Digits.{number}
 use Rattle.mail_date.specs.Names.{months, place_in, weekdays}
-use Rattle.mail_date.specs.Options.{◌>>=◌}
+use Rattle.kit.specs.Options.{◌>>=◌}
 
 -- in a form a letter stands for any byte, and every other byte for itself
 abbrev pub fits : ℕ → ℕ → Bool

@@ -6,7 +6,7 @@ use Rattle.std.specs.Char.{is_ascii_digit, is_ascii_lowercase, is_ascii_alphanum
 use Rattle.kit.specs.Addresses.{is_addr}
 use Rattle.kit.specs.Lines.{raw_lines}
 use Rattle.kit.specs.Reading.{read_as}
-use Rattle.mail_date.specs.Options.{◌>>=◌}
+use Rattle.kit.specs.Options.{◌>>=◌}
 use Rattle.follow.specs.declared.card.Card.{Card}
 use Rattle.follow.specs.declared.plain.Sender.{Sender}
 use Rattle.follow.specs.Dates.{plain_moment}

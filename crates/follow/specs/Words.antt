@@ -1,6 +1,6 @@
 -- The words of the command line: exactly `--me ADDR --at N list`.
 use Rattle.std.specs.Prelude.{ℕ, ◌&&◌, nat_le, if◌then◌else◌, bytes_eq, codes, List, [], ◌∷◌, Option, Some, None, option_and_then, option_map}
-use Rattle.mail_date.specs.Days.{last_moment}
+use Rattle.kit.specs.Moments.{last_moment}
 use Rattle.mail_date.specs.Digits.{number}
 use Rattle.follow.specs.declared.words.Command.{Command}
 use Rattle.follow.specs.Plain.{plain_address}

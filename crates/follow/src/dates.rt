@@ -1,7 +1,8 @@
 //! The plain date of a mail.
 ghost use Rattle.std.specs.Prelude.{◌≡◌, ◌<◌, ◌≤◌, length, zip, IfSome};
 ghost use Rattle.std.specs.List.{list_all};
-ghost use Rattle.mail_date.specs.Days.{last_day, last_moment};
+ghost use Rattle.mail_date.specs.Days.{last_day};
+ghost use Rattle.kit.specs.Moments.{last_moment};
 ghost use Rattle.follow.specs.Dates.{days_since_1970, fits, has_form, number_below, plain_moment, second_of_day};
 
 use mail_date::{MONTHS, SECONDS_PER_DAY, WEEKDAYS, day_number, natural, number, place_in};

@@ -1,6 +1,6 @@
 //! The printed list.
 ghost use Rattle.std.specs.Prelude.{◌≡◌, ◌≤◌, ◌++◌, All, IfOk, OnOk, IfSome, string_bytes};
-ghost use Rattle.mail_date.specs.Days.{last_moment};
+ghost use Rattle.kit.specs.Moments.{last_moment};
 ghost use Rattle.follow.specs.Texts.{short, last_text, list_line, list_text};
 
 use crate::list::ListRow;

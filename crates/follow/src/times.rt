@@ -1,7 +1,8 @@
 //! The printed time of a moment.
 ghost use Rattle.std.specs.Prelude.{◌≡◌, ◌++◌, ◌<◌, ◌≤◌, OnOk, pos, string_bytes};
 ghost use Rattle.jiff_core.specs.Date.{epoch_day, IsYmd};
-ghost use Rattle.mail_date.specs.Days.{last_day, last_moment};
+ghost use Rattle.mail_date.specs.Days.{last_day};
+ghost use Rattle.kit.specs.Moments.{last_moment};
 ghost use Rattle.follow.specs.Times.{civil_date, date_text, clock_text, four_digits, time_text, two_digits};
 
 use jiff_core::civil::Date;

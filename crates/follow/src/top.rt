@@ -3,7 +3,7 @@ ghost use Rattle.std.specs.Prelude.{◌≡◌, ◌≤◌, ◌+◌, ◌⊎◌, Li
 ghost use Rattle.std.specs.Io.KnownBytes.{Appends, Consumes};
 ghost use Rattle.outside.specs.Causes.{Rose};
 ghost use Rattle.outside.specs.Lent.{IfLent};
-ghost use Rattle.mail_date.specs.Days.{last_moment};
+ghost use Rattle.kit.specs.Moments.{last_moment};
 ghost use Rattle.follow.specs.Lists.{list};
 ghost use Rattle.follow.specs.Outcome.{answer_to, early, followed, outcome, ComesWhere, Agrees, PutsAnswer, PutsLine, IsOutcome};
 ghost use Rattle.follow.specs.Plain.{longest};

@@ -1,12 +1,11 @@
 //! The words of the command line.
 ghost use Rattle.std.specs.Prelude.{◌≡◌, ◌≤◌, IfOk, IfSome};
-ghost use Rattle.mail_date.specs.Days.{last_moment};
+ghost use Rattle.kit.specs.Moments.{last_moment};
 ghost use Rattle.follow.specs.Words.{moment_of};
 
 use crate::plain::plain_address;
-use kit::{Addr, Memory, Text};
+use kit::{Addr, LAST_MOMENT, Memory, Text};
 use mail_date::number;
-use outside::LAST_MOMENT;
 use std::alloc::Global;
 
 /// What the words ask for: the list of chats.
@@ -32,7 +31,7 @@ fn moment_of(word: &[u8]) -> Option<u64>
 
 impl Command {
     ghost use Rattle.std.specs.Prelude.{◌≡◌, ◌≤◌, IfOk, IfSome};
-    ghost use Rattle.mail_date.specs.Days.{last_moment};
+    ghost use Rattle.kit.specs.Moments.{last_moment};
     ghost use Rattle.follow.specs.Words.{command};
 
     /// The command of these words, which are exactly `--me ADDR --at N list`; none where they are not. ADDR is a plain

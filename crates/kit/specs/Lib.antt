@@ -1,3 +1,4 @@
+pub mod Options
 pub mod Letters
 pub mod Reading
 pub mod Lines
@@ -6,3 +7,4 @@ pub mod Addresses
 pub mod Charsets
 pub mod White
 pub mod Cuts
+pub mod Moments

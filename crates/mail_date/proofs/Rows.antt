@@ -2,7 +2,7 @@
 use Rattle.std.proofs.Common.{◌≡◌, refl}
 use Rattle.std.specs.Prelude.{codes, [], ◌∷◌, Some, None}
 use Rattle.jiff_core.specs.Calendar.{days_from_civil, day_count, days_of_years, days_of_months}
-use Rattle.mail_date.specs.Days.{last_moment}
+use Rattle.kit.specs.Moments.{last_moment}
 use Rattle.mail_date.specs.Moment.{moment}
 use Rattle.mail_date.specs.Words.{words}
 

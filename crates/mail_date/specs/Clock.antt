@@ -2,7 +2,7 @@
 use Rattle.std.specs.Prelude.{ℕ, ◌+◌, ◌*◌, List, codes, Option, Some, unwrap_or, min}
 use Rattle.kit.specs.Cuts.{split_once}
 use Rattle.mail_date.specs.Digits.{number_to}
-use Rattle.mail_date.specs.Options.{◌>>=◌}
+use Rattle.kit.specs.Options.{◌>>=◌}
 
 -- the second of the day at a time, where a leap second is the second before it again
 abbrev pub second_at : List ℕ → List ℕ → List ℕ → Option ℕ

@@ -4,15 +4,11 @@ use Rattle.std.specs.Option.{option_or}
 use Rattle.jiff_core.specs.Calendar.{days_in_month, days_from_civil}
 use Rattle.mail_date.specs.Digits.{number}
 use Rattle.mail_date.specs.Names.{months, place_in}
-use Rattle.mail_date.specs.Options.{◌>>=◌}
+use Rattle.kit.specs.Options.{◌>>=◌}
 
 -- the day number of 9999-12-31
 abbrev pub last_day : ℕ
 last_day = 2932896
-
--- the last second of that day
-abbrev pub last_moment : ℕ
-last_moment = 253402300799
 
 -- the number, if it is not negative
 abbrev pub natural : ℤ → Option ℕ

@@ -3,7 +3,7 @@ use Rattle.std.specs.Prelude.{ℕ, ◌&&◌, nat_le, if◌then◌else◌, List, 
 use Rattle.std.specs.List.{list_all}
 use Rattle.std.specs.Char.{is_ascii_digit}
 use Rattle.std.specs.Str.Parse.{digits_value}
-use Rattle.mail_date.specs.Options.{◌>>=◌}
+use Rattle.kit.specs.Options.{◌>>=◌}
 
 -- the number that the bytes write, if they are at least `least` digits and at most `most`, zeros in front included
 abbrev pub number : ℕ → ℕ → List ℕ → Option ℕ

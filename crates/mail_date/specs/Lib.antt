@@ -1,5 +1,4 @@
 -- The moment that the body of a Date field names.
-pub mod Options
 pub mod Digits
 pub mod Names
 pub mod Days

@@ -1,9 +1,10 @@
 -- The moment that a body names: a table over its words (RFC 5322, sections 3.3 and 4.3).
 use Rattle.std.specs.Prelude.{ℕ, ◌+ℤ◌, ◌-ℤ◌, ◌*ℤ◌, nat_le, if◌then◌else◌, List, [], ◌∷◌, Option, Some, None, is_some, ℤ, pos}
 use Rattle.mail_date.specs.Clock.{second_of_day}
-use Rattle.mail_date.specs.Days.{day_of, last_moment, natural}
+use Rattle.mail_date.specs.Days.{day_of, natural}
 use Rattle.mail_date.specs.Names.{place_in, weekdays}
-use Rattle.mail_date.specs.Options.{◌>>=◌}
+use Rattle.kit.specs.Moments.{last_moment}
+use Rattle.kit.specs.Options.{◌>>=◌}
 use Rattle.mail_date.specs.Words.{words}
 use Rattle.mail_date.specs.Zones.{zone_offset}
 

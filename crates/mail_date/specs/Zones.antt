@@ -3,7 +3,7 @@ use Rattle.std.specs.Prelude.{ℕ, ◌+◌, ◌*◌, ◌/◌, ◌%◌, nat_eq, n
 use Rattle.std.specs.List.{starts_with}
 use Rattle.kit.specs.Letters.{same_name}
 use Rattle.mail_date.specs.Digits.{number}
-use Rattle.mail_date.specs.Options.{◌>>=◌}
+use Rattle.kit.specs.Options.{◌>>=◌}
 
 -- the zones of North America, and by how many hours each is behind UTC
 abbrev pub zones : List (List ℕ × ℕ)

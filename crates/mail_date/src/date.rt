@@ -1,7 +1,7 @@
 //! The moment of a body.
 ghost use Rattle.std.specs.Prelude.{◌≡◌, ◌<◌, ◌≤◌, ◌+ℤ◌, ◌-ℤ◌, ◌*ℤ◌, IfSome, pos};
 ghost use Rattle.jiff_core.specs.Calendar.{IsEpochDay, IsWithin};
-ghost use Rattle.mail_date.specs.Days.{last_moment};
+ghost use Rattle.kit.specs.Moments.{last_moment};
 ghost use Rattle.mail_date.specs.Moment.{as_moment, moment, next_offset};
 ghost use Rattle.mail_date.specs.Words.{words as words_of};
 
@@ -9,9 +9,7 @@ use crate::clock::second_of_day;
 use crate::days::{SECONDS_PER_DAY, day_of, natural};
 use crate::words::Words;
 use crate::zones::zone_offset;
-
-/// The last second of the year 9999.
-const LAST_MOMENT: u64 = 253_402_300_799;
+use kit::LAST_MOMENT;
 
 fn as_moment(seconds: i64) -> Option<u64>
     ensures value { result ≡ as_moment seconds }

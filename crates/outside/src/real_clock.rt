@@ -1,7 +1,8 @@
 //! The clock of the system.
 ghost use Rattle.std.specs.Prelude.{◌≡◌, None};
 
-use crate::{Clock, LAST_MOMENT};
+use crate::Clock;
+use kit::LAST_MOMENT;
 use std::rt;
 
 /// The clock of the system. It tells no moment ahead.

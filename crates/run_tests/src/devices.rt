@@ -1,7 +1,8 @@
 //! Each device once: what it gives, and a call of it that fails.
+use kit::LAST_MOMENT;
 use outside::{
-    Clock, Failed, FileSink, FileSource, FixedClock, LAST_MOMENT, MemorySink, MemorySource,
-    NoShelf, NoSource, Place, QuietSource, RealClock, Shelf, Sink, Source,
+    Clock, Failed, FileSink, FileSource, FixedClock, MemorySink, MemorySource, NoShelf, NoSource,
+    Place, QuietSource, RealClock, Shelf, Sink, Source,
 };
 use std::test::Fail;
 use std::{env, fs, process};

@@ -1,0 +1,126 @@
+//! One encoded word.
+ghost use Rattle.std.specs.Prelude.{◌≡◌, IfOk, map, option_map};
+ghost use Rattle.std.specs.Option.{option_copied};
+ghost use Rattle.std.specs.List.{list_all};
+ghost use Rattle.std.specs.Char.{is_ascii_graphic};
+ghost use Rattle.encoded_words.specs.Words.{behind, is_charset, without_language, coding_of, is_text, word_at, spaced, coded_bytes, word_text};
+ghost use Rattle.encoded_words.specs.Views.{found};
+
+use kit::{Charset, Memory, Text, charset_of, same_name, split_once, to_text};
+use std::alloc::Global;
+use transfer_code::{Encoding, decode_body, unescaped};
+
+/// How the text of a word stands for bytes (RFC 2047, section 4).
+#[derive(Clone, Copy, Debug, PartialEq, Eq)]
+pub enum Coding {
+    /// Like quoted-printable, with `_` for a space.
+    Q,
+    /// Base64.
+    B,
+}
+
+/// A word that was found in bytes.
+#[derive(Clone, Copy)]
+pub struct Word<'a> {
+    charset: Charset,
+    coding: Coding,
+    text: &'a [u8],
+    /// The bytes behind the word.
+    pub rest: &'a [u8],
+}
+
+fn behind<'a>(front: &[u8], bytes: &'a [u8]) -> Option<&'a [u8]>
+    ensures { option_copied result ≡ behind front.now bytes.now }
+{
+    bytes.strip_prefix(front)
+}
+
+fn is_printing(name: &[u8]) -> bool
+    ensures { result ≡ list_all is_ascii_graphic name.now }
+{
+    name.iter().all(|b| b.is_ascii_graphic())
+}
+
+fn is_charset(name: &[u8]) -> bool
+    ensures { result ≡ is_charset name.now }
+{
+    !name.is_empty() && is_printing(name)
+}
+
+/// The name of a charset, without a language behind it.
+fn without_language(name: &[u8]) -> &[u8]
+    ensures { result.now ≡ without_language name.now }
+{
+    match split_once(name, b'*') {
+        Some((charset, _language)) => charset,
+        None => name,
+    }
+}
+
+fn coding_of(name: &[u8]) -> Option<Coding>
+    ensures { result ≡ coding_of name.now }
+{
+    if same_name(name, b"q") {
+        Some(Coding::Q)
+    } else if same_name(name, b"b") {
+        Some(Coding::B)
+    } else {
+        None
+    }
+}
+
+fn is_text(text: &[u8]) -> bool
+    ensures { result ≡ is_text text.now }
+{
+    text.iter().all(|b| 32 <= *b && *b <= 126)
+}
+
+/// The word that bytes begin with.
+pub fn word_at(bytes: &[u8]) -> Option<Word<'_>>
+    ensures { option_map found result ≡ word_at bytes.now }
+{
+    let (charset, rest) = split_once(behind(b"=?", bytes)?, b'?')?;
+    let (coding, rest) = split_once(rest, b'?')?;
+    let (text, rest) = split_once(rest, b'?')?;
+    let rest = behind(b"=", rest)?;
+    if !is_charset(charset) || !is_text(text) {
+        return None;
+    }
+    Some(Word {
+        charset: charset_of(without_language(charset)),
+        coding: coding_of(coding)?,
+        text,
+        rest,
+    })
+}
+
+fn spaced(b: &u8) -> u8
+    ensures { result ≡ spaced b.now }
+{
+    if *b == b'_' { b' ' } else { *b }
+}
+
+fn with_spaces(alloc: Global, text: &[u8]) -> Result<Vec<u8>, Memory>
+    ensures { IfOk result (λ out. out.items ≡ map spaced text.now) }
+{
+    Ok(text.iter().map(spaced).collect(alloc)?)
+}
+
+fn coded_bytes(alloc: Global, coding: Coding, text: &[u8]) -> Result<Vec<u8>, Memory>
+    ensures { IfOk result (λ out. out.items ≡ coded_bytes coding text.now) }
+{
+    match coding {
+        Coding::Q => unescaped(alloc, b'=', &with_spaces(alloc, text)?),
+        Coding::B => decode_body(alloc, Encoding::Base64, text),
+    }
+}
+
+impl Word<'_> {
+    /// What the word says. Takes memory, and is `Err` only where there is none.
+    pub fn text(&self, alloc: Global) -> Result<Text, Memory>
+        ensures { IfOk result (λ text. text ≡ word_text (found self.now)) }
+    {
+        let bytes = coded_bytes(alloc, self.coding, self.text)?;
+        to_text(alloc, self.charset, &bytes)
+    }
+}
