@@ -8,7 +8,7 @@ use Rattle.kit.specs.Cuts.{split_once}
 use Rattle.mail_headers.specs.Ids.{angles_from, angles}
 use Rattle.mail_headers.proofs.CutLemmas.{put_before, split_once-here, split_once-further}
 
--- the angles of bytes that were cut at a <, and of those that were cut at a > behind one
+-- the angles of bytes that were cut at a <
 abbrev angles_behind : Option (List ℕ × List ℕ) → List (List ℕ)
 angles_behind None = []
 angles_behind (Some p) = angles_from (Some []) p.1
@@ -29,6 +29,7 @@ angles-open (b ∷ bs) = elim (cases_Bool (b == 60)) [
       goes_on ∙ (angles-open bs ∙ (sym (angles_behind-put_before b (split_once bs 60)) ∙ ap angles_behind (sym (split_once-further b bs 60 other)))))
 ]
 
+-- of bytes in an angle that were cut at a >: that angle, and those behind it
 abbrev angle_and_others : List ℕ → Option (List ℕ × List ℕ) → List (List ℕ)
 angle_and_others inside None = []
 angle_and_others inside (Some p) = (inside ++ p.0) ∷ angles p.1
@@ -54,13 +55,17 @@ angles-close inside (b ∷ bs) = elim (cases_Bool (b == 62)) [
 abbrev texts : Bor (List ℕ) × Bor (List ℕ) → List ℕ × List ℕ
 texts p = (p.0.now, p.1.now)
 
+-- there is no angle without a <
 pub no_open : (bytes : List ℕ) → None ≡ split_once bytes 60 → angles bytes ≡ []
 no_open bytes none = angles-open bytes ∙ ap angles_behind (sym none)
+
+angles-cut : (bytes outside opened : List ℕ) → Some (outside, opened) ≡ split_once bytes 60 → angles bytes ≡ angle_and_others [] (split_once opened 62)
+angles-cut bytes outside opened cut = angles-open bytes ∙ (ap angles_behind (sym cut) ∙ angles-close [] opened)
 
 -- the first angle, if there is one, is what stands before the first > behind the first <
 pub first_angle : (bytes outside opened : List ℕ) (found : Option (Bor (List ℕ) × Bor (List ℕ))) → Some (outside, opened) ≡ split_once bytes 60
     → option_map texts found ≡ split_once opened 62 → IfSome found (λ p. length p.1.now < length opened) → length opened < length bytes
     → MatchOption found (angles bytes ≡ []) (λ p. (angles bytes ≡ p.0.now ∷ angles p.1.now) × (length p.1.now < length bytes))
-first_angle bytes outside opened None cut parts shorter len = angles-open bytes ∙ (ap angles_behind (sym cut) ∙ (angles-close [] opened ∙ ap (angle_and_others []) (sym parts)))
+first_angle bytes outside opened None cut parts shorter len = angles-cut bytes outside opened cut ∙ ap (angle_and_others []) (sym parts)
 first_angle bytes outside opened (Some p) cut parts shorter len =
-    (angles-open bytes ∙ (ap angles_behind (sym cut) ∙ (angles-close [] opened ∙ ap (angle_and_others []) (sym parts))), omega arith)
+    (angles-cut bytes outside opened cut ∙ ap (angle_and_others []) (sym parts), omega arith)

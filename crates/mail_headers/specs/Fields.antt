@@ -10,10 +10,11 @@ use Rattle.mail_headers.specs.declared.field.Field.{Field}
 abbrev pub is_name : List ℕ → Bool
 is_name bytes = nat_le 1 (length bytes) && list_all is_ascii_graphic bytes
 
--- the name of a field line, and what follows its colon (58); white space before the colon is not of the name
+-- what stands before a colon as a name, without white space at its end, and what stands behind
 abbrev pub named : List ℕ × List ℕ → Option (List ℕ × List ℕ)
 named p = if is_name (trim_end p.0) then Some (trim_end p.0, p.1) else None
 
+-- the name of a field line, and what follows its colon (58), which is the first in the line
 abbrev pub name_and_rest : List ℕ → Option (List ℕ × List ℕ)
 name_and_rest line = option_and_then named (split_once line 58)
 
