@@ -3,3 +3,5 @@
 
 #[cfg(test)]
 mod dates;
+#[cfg(test)]
+mod headers;

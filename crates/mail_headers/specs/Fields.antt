@@ -1,0 +1,38 @@
+-- The fields of a header, by the contents of its lines (RFC 5322, sections 2.2 and 4.5).
+use Rattle.std.specs.Prelude.{ℕ, Bool, false, ◌&&◌, nat_le, if◌then◌else◌, List, [], ◌∷◌, ◌++◌, length, take_while, Option, Some, None, option_map, option_and_then}
+use Rattle.std.specs.List.{list_all, cons_option, concat}
+use Rattle.std.specs.Char.{is_ascii_graphic}
+use Rattle.kit.specs.Cuts.{split_once}
+use Rattle.kit.specs.White.{is_white, trim, trim_end}
+use Rattle.mail_headers.specs.declared.field.Field.{Field}
+
+-- one or more bytes from 33 to 126; before the first colon of a line none of them is a colon
+abbrev pub is_name : List ℕ → Bool
+is_name bytes = nat_le 1 (length bytes) && list_all is_ascii_graphic bytes
+
+-- what stands before a colon as a name, without white space at its end, and what stands behind
+abbrev pub named : List ℕ × List ℕ → Option (List ℕ × List ℕ)
+named p = if is_name (trim_end p.0) then Some (trim_end p.0, p.1) else None
+
+-- the name of a field line, and what follows its colon (58), which is the first in the line
+abbrev pub name_and_rest : List ℕ → Option (List ℕ × List ℕ)
+name_and_rest line = option_and_then named (split_once line 58)
+
+-- whether a line continues the one before it
+abbrev pub continues : List ℕ → Bool
+continues [] = false
+continues (b ∷ bs) = is_white b
+
+-- the contents of the lines that continue the line before these
+abbrev pub continuation : List (List ℕ) → List ℕ
+continuation lines = concat (take_while continues lines)
+
+-- the field that begins in a line, if it is a field line; other lines follow it
+abbrev pub field_of : List ℕ → List (List ℕ) → Option Field
+field_of line following =
+    option_map (λ p. record { name = p.0; body = trim (p.1 ++ continuation following) }) (name_and_rest line)
+
+-- The fields that begin in lines. None begins in a line that continues another, since that has no name before its colon.
+abbrev pub fields_of : List (List ℕ) → List Field
+fields_of [] = []
+fields_of (l ∷ ls) = cons_option (field_of l ls) (fields_of ls)

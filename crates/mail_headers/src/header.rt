@@ -1,0 +1,94 @@
+//! The header of a mail.
+ghost use Rattle.std.specs.Prelude.{◌≡◌, ◌≤◌, IfOk, length, map};
+ghost use Rattle.kit.specs.Lines.{raw_lines};
+ghost use Rattle.mail_headers.specs.Headers.{header_lines, header_len, header_of};
+
+use crate::field::{Field, fields_of};
+use kit::{Memory, content, same_name};
+use std::alloc::Global;
+use std::marker::Model;
+
+/// The header of a mail (RFC 5322, section 2.2): its fields in their order, and the place in the mail
+/// where the body begins.
+#[derive(Debug, Drop)]
+pub struct Header {
+    fields: Vec<Field>,
+    body_at: usize,
+}
+
+impl Model for Header {
+    ghost use Rattle.mail_headers.specs.Headers.{Head};
+
+    ghost Value = { Head };
+
+    ghost view = { λ header. record { fields = header.fields.items; body_at = header.body_at } };
+}
+
+impl Header {
+    ghost use Rattle.std.specs.Prelude.{◌≡◌, ◌↔◌, Any, IsSome, IsTrue, length};
+    ghost use Rattle.kit.specs.Letters.{same_name};
+    ghost use Rattle.std.specs.Option.{option_copied};
+    ghost use Rattle.mail_headers.specs.Headers.{first_of};
+
+    /// The body of the first field of that name, where the case of ASCII letters does not count:
+    /// `None` exactly where the header has no field of that name. The body is what follows the colon,
+    /// with the contents of the lines that continue it appended as they stand, and without outer white
+    /// space (RFC 5322, sections 2.2.3 and 3.6). Takes no memory.
+    pub fn first(&self, name: &[u8]) -> Option<&[u8]>
+        ensures body { option_copied result ≡ first_of self.now name.now }
+        ensures found { IsSome result ↔ Any (λ field. IsTrue (same_name field.name name.now)) self.now.fields }
+    {
+        let field = self
+            .fields
+            .iter()
+            .find(|field| same_name(field.name.bytes(), name))?;
+        Some(field.body.bytes())
+    }
+
+    /// The number of fields; where several share a name, each is counted. Takes no memory.
+    pub fn len(&self) -> usize
+        ensures { result ≡ length self.now.fields }
+    {
+        self.fields.len()
+    }
+
+    /// Where the body begins, as an offset from the beginning of the mail: behind the first empty line,
+    /// or where the mail ends if there is none. Takes no memory.
+    pub fn body_at(&self) -> usize
+        ensures { result ≡ self.now.body_at }
+    {
+        self.body_at
+    }
+}
+
+/// The contents of the header's lines, and the place where the body begins.
+fn header_lines(alloc: Global, mail: &[u8]) -> Result<(Vec<&[u8]>, usize), Memory>
+    ensures lines { IfOk result (λ p. map (λ line. line.now) p.0.items ≡ header_lines (raw_lines mail.now)) }
+    ensures place { IfOk result (λ p. p.1 ≡ header_len (raw_lines mail.now)) }
+    ensures within { IfOk result (λ p. p.1 ≤ length mail.now) }
+{
+    let mut found = Vec::new(alloc);
+    let mut at = 0;
+    for raw in mail.split_inclusive(|b| *b == b'\n') {
+        at += raw.len();
+        let line = content(raw);
+        if line.is_empty() {
+            break;
+        }
+        found.push(line)?;
+    }
+    Ok((found, at))
+}
+
+/// Reads the header of a mail: the lines before the first empty one, or all (RFC 5322, sections 2.1,
+/// 2.2 and 4.5). A field begins in a line of a name, white space or none, and a colon; lines that begin
+/// with white space continue it. Every other line is skipped, with those that continue it. Any bytes are
+/// a mail. Takes memory for a copy of each name and body, and is `Err` only where there is none.
+pub fn read_header(alloc: Global, mail: &[u8]) -> Result<Header, Memory>
+    ensures read { IfOk result (λ header. header ≡ header_of mail.now) }
+    ensures within { IfOk result (λ header. header.body_at ≤ length mail.now) }
+{
+    let (lines, body_at) = header_lines(alloc, mail)?;
+    let fields = fields_of(alloc, &lines)?;
+    Ok(Header { fields, body_at })
+}
