@@ -5,3 +5,7 @@
 mod dates;
 #[cfg(test)]
 mod headers;
+#[cfg(test)]
+mod transfer;
+#[cfg(test)]
+mod values;
