@@ -1,0 +1,4 @@
+pub mod EndLemmas
+pub mod LineTexts
+pub mod WrittenLemmas
+mod Rows
