@@ -4,6 +4,8 @@
 #[cfg(test)]
 mod dates;
 #[cfg(test)]
+mod flowed;
+#[cfg(test)]
 mod headers;
 #[cfg(test)]
 mod transfer;

@@ -11,11 +11,11 @@ passed sign zero bs = refl
 passed sign (suc k) [] = refl
 passed sign (suc k) (b ∷ bs) = passed sign k bs
 
-at_escape : (sign v : ℕ) (bs : List ℕ) → escape_in sign bs ≡ Some v → unescaped sign bs ≡ v ∷ unescaped sign (drop 3 bs)
+pub at_escape : (sign v : ℕ) (bs : List ℕ) → escape_in sign bs ≡ Some v → unescaped sign bs ≡ v ∷ unescaped sign (drop 3 bs)
 at_escape sign v [] e = absurd cc
 at_escape sign v (b ∷ bs) e = rw e (ap (λ (t : List ℕ). v ∷ t) (passed sign 2 bs))
 
-at_other : (sign b : ℕ) (bs : List ℕ) → escape_in sign (b ∷ bs) ≡ None → unescaped sign (b ∷ bs) ≡ b ∷ unescaped sign bs
+pub at_other : (sign b : ℕ) (bs : List ℕ) → escape_in sign (b ∷ bs) ≡ None → unescaped sign (b ∷ bs) ≡ b ∷ unescaped sign bs
 at_other sign b bs e = rw e refl
 
 -- ---- a loop over the bytes
@@ -37,7 +37,7 @@ after_other sign i out bytes all lt e so_far =
 
 -- ---- the relation
 
-of_digits : (sign high low h l : ℕ) (bs : List ℕ) → digit_of high ≡ Some h → digit_of low ≡ Some l
+pub of_digits : (sign high low h l : ℕ) (bs : List ℕ) → digit_of high ≡ Some h → digit_of low ≡ Some l
     → escape_in sign (sign ∷ high ∷ low ∷ bs) ≡ Some (16 * h + l)
 of_digits sign high low h l bs e f = rw (eq-eqb sign sign refl, e, f) refl
 
@@ -50,7 +50,7 @@ stands_alone sign _ _ (escape high low h l bs out e f rest) =
 stands_alone sign _ _ (stands b bs out e rest) =
     ap (λ (t : List ℕ). b ∷ t) (stands_alone sign bs out rest) ∙ sym (at_other sign b bs e)
 
-digits_of : (v : ℕ) (x y : Option ℕ) → option_and_then (λ h. option_map (λ l. 16 * h + l) y) x ≡ Some v
+pub digits_of : (v : ℕ) (x y : Option ℕ) → option_and_then (λ h. option_map (λ l. 16 * h + l) y) x ≡ Some v
     → (h : ℕ) × (l : ℕ) × (x ≡ Some h) × (y ≡ Some l) × (16 * h + l ≡ v)
 digits_of v None y is = absurd cc
 digits_of v (Some h) None is = absurd cc

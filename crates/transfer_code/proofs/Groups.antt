@@ -1,13 +1,16 @@
 -- Sextets regrouped by eight bits, and the groups of four symbols that the crate base64 decodes.
 use Rattle.std.proofs.Common.{◌≡◌, ℕ, zero, suc, ◌+◌, ◌-◌, ◌*◌, ◌/◌, ◌%◌, ◌<◌, ◌≤◌, Bool, true, false, not, eqb, List, [], ◌∷◌, ◌++◌, length, get_or, take, map, filter, Option, Some, None, refl, sym, ap, ◌∙◌, arith, inl, inr}
-use Rattle.std.specs.Prelude.{position, filter_map, flat_map, slice_index, is_some}
+use Rattle.std.specs.Prelude.{take_while, ◌==◌, position, filter_map, flat_map, slice_index, is_some}
 use Rattle.std.specs.List.{AllByRecursion, position_or_len, list_any}
+use Rattle.std.proofs.lemmas.List.{append-nil, length-map}
 use Rattle.std.proofs.lemmas.Bool.{cases_lt, cases_eq, lt-ltb, le-ltb, ne_eqb, eqb-true, not-true}
 use Rattle.std.proofs.lemmas.List.Sums.{prefix_len_passes, passes_at_first}
 use Rattle.std.proofs.lemmas.List.Folds.{list_any_at, list_any_none}
+use Rattle.base64.specs.Engines.{standard_no_pad}
+use Rattle.base64.specs.GeneralPurpose.{encode_of, IsBytes}
 use Rattle.base64.specs.Rfc4648.{encode_symbols}
 use Rattle.base64.specs.Decode.{decode_group}
-use Rattle.transfer_code.specs.Base64.{alphabet, sextet_of, six_bits, octets, is_symbol, completed}
+use Rattle.transfer_code.specs.Base64.{alphabet, sextet_of, sextets, six_bits, octets, decode_base64, is_symbol, completed}
 
 abbrev pub AreSextets : List ℕ → Type 0
 AreSextets m = AllByRecursion (λ i. i < 64) m
@@ -179,3 +182,26 @@ completed-map (a ∷ b ∷ c ∷ []) = refl
 completed-map (a ∷ b ∷ c ∷ d ∷ m) =
     completed_group (symbol a) (symbol b) (symbol c) (symbol d) (map symbol m)
     ∙ ap (λ (s : List ℕ). symbol a ∷ symbol b ∷ symbol c ∷ symbol d ∷ s) (completed-map m)
+
+-- ---- the symbols that are kept, completed, are those of the octets of the filled groups
+
+abbrev pub octets_of : List ℕ → List ℕ
+octets_of bs = groups (filled (filter_map sextet_of bs))
+
+pub octets_below : (bs : List ℕ) → IsBytes (octets_of bs)
+octets_below bs = groups_below (filled (filter_map sextet_of bs)) (AreGroups-filled (filter_map sextet_of bs) (filter-is_symbol bs).1)
+
+pub completed-filter : (bs : List ℕ) → completed (filter is_symbol bs) ≡ encode_of standard_no_pad (octets_of bs)
+completed-filter bs =
+    let m = filter_map sextet_of bs in
+    let kept = filter-is_symbol bs in
+    ap completed kept.0
+    ∙ completed-map m
+    ∙ sym (append-nil (encode_symbols alphabet (octets_of bs)) ∙ encode_symbols-groups (filled m) (AreGroups-filled m kept.1))
+
+-- so the first of those octets are what the text stands for
+pub octets_of_text : (bytes : List ℕ) → take (whole (length (filter is_symbol (take_while (λ b. not (b == 61)) bytes)))) (octets_of (take_while (λ b. not (b == 61)) bytes)) ≡ decode_base64 bytes
+octets_of_text bytes =
+    let m = sextets bytes in
+    let kept = filter-is_symbol (take_while (λ b. not (b == 61)) bytes) in
+    ap (λ n. take (whole n) (groups (filled m))) (ap length kept.0 ∙ length-map m symbol) ∙ sym (octets-six_bits m kept.1)

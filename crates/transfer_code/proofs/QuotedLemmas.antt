@@ -1,7 +1,8 @@
 -- The lines of quoted-printable by their places.
-use Rattle.std.proofs.Common.{◌≡◌, ℕ, ◌+◌, ◌<◌, List, [], ◌∷◌, ◌++◌, length, refl, sym, ◌∙◌, arith, inl, inr, append_assoc, length-append}
+use Rattle.std.proofs.Common.{◌≡◌, ℕ, ◌+◌, ◌<◌, ◌≤◌, List, [], ◌∷◌, ◌++◌, length, take, refl, sym, ap, ◌∙◌, arith, inl, inr, append_assoc, length-append}
 use Rattle.std.specs.Prelude.{flat_map, nat_lt}
 use Rattle.std.specs.List.{concat}
+use Rattle.std.proofs.lemmas.List.{take_all}
 use Rattle.std.proofs.lemmas.Bool.{cases_lt, lt-ltb, le-ltb}
 use Rattle.kit.specs.declared.line.Line.{Line}
 use Rattle.kit.specs.Lines.{raw_lines, content, placed, lines}
@@ -28,5 +29,11 @@ texts_placed front (l ∷ ls) =
     rw (first, broken, rest) refl
 
 -- the places of the lines give what the raw lines do
-pub texts_of_lines : (bytes : List ℕ) → flat_map (text_at bytes) (lines bytes) ≡ decode_quoted bytes
+texts_of_lines : (bytes : List ℕ) → flat_map (text_at bytes) (lines bytes) ≡ decode_quoted bytes
 texts_of_lines bytes = rw concat-raw_lines at (texts_placed [] (raw_lines bytes))
+
+-- a loop over the lines that has come to their end
+pub decoded : (n : ℕ) (bytes out : List ℕ) (places : List Line) → length places ≤ n → places ≡ lines bytes
+    → out ≡ flat_map (text_at bytes) (take n places) → out ≡ decode_quoted bytes
+decoded n bytes out places end is so_far =
+    so_far ∙ ap (flat_map (text_at bytes)) (take_all n places end ∙ is) ∙ texts_of_lines bytes

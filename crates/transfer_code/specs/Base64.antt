@@ -1,6 +1,8 @@
 -- Base64 (RFC 2045, section 6.8).
-use Rattle.std.specs.Prelude.{ℕ, ◌+◌, ◌-◌, ◌*◌, ◌/◌, ◌%◌, Bool, not, ◌==◌, if◌then◌else◌, List, [], ◌∷◌, ◌++◌, length, take, codes, flat_map, filter_map, take_while, Option, position}
+use Rattle.std.specs.Prelude.{◌≡◌, ℕ, ◌+◌, ◌-◌, ◌*◌, ◌/◌, ◌%◌, Bool, not, ◌==◌, if◌then◌else◌, List, [], ◌∷◌, ◌++◌, length, take, codes, flat_map, filter_map, take_while, Option, position}
 use Rattle.std.specs.List.{list_any}
+use Rattle.base64.specs.Engines.{standard_no_pad}
+use Rattle.base64.specs.GeneralPurpose.{encode_of, IsBytes}
 
 abbrev pub alphabet : List ℕ
 alphabet = codes "ABCDEFGHIJKLMNOPQRSTUVWXYZabcdefghijklmnopqrstuvwxyz0123456789+/"
@@ -28,6 +30,10 @@ abbrev pub decode_base64 : List ℕ → List ℕ
 decode_base64 bytes = octets (flat_map six_bits (sextets bytes))
 
 -- ---- symbols that decode exactly
+
+-- the symbols are those of some bytes, without padding
+abbrev pub IsEncoded : List ℕ → Type 0
+IsEncoded symbols = (bytes : List ℕ) × IsBytes bytes × (symbols ≡ encode_of standard_no_pad bytes)
 
 abbrev pub is_symbol : ℕ → Bool
 is_symbol b = list_any (λ c. c == b) alphabet

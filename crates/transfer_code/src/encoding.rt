@@ -1,5 +1,8 @@
 //! Which transfer encoding a body has, and what it stands for.
 ghost use Rattle.std.specs.Prelude.{◌≡◌, IfOk};
+ghost use Rattle.kit.specs.Lines.{raw_lines};
+ghost use Rattle.transfer_code.specs.declared.encoding.Encoding.TheVariants.{Quoted};
+ghost use Rattle.transfer_code.specs.Quoted.{LinesText};
 ghost use Rattle.transfer_code.specs.Encodings.{encoding_named, encoding_of, decode_body};
 
 use crate::quoted::decode_quoted;
@@ -47,7 +50,10 @@ pub fn encoding_of(body: &[u8]) -> Encoding
 /// and passes over what is no symbol (RFC 2045, section 6.8): each eight bits of the symbols are a byte, and what is
 /// left over at the end is dropped.
 pub fn decode_body(alloc: Global, encoding: Encoding, bytes: &[u8]) -> Result<Vec<u8>, Memory>
-    ensures { IfOk result (λ out. out.items ≡ decode_body encoding bytes.now) }
+    ensures value { IfOk result (λ out. out.items ≡ decode_body encoding bytes.now) }
+
+    // Quoted-printable also by cases on what is left of each line, as the RFC has its rules.
+    ensures quoted { encoding ≡ Quoted → IfOk result (λ out. LinesText (raw_lines bytes.now) out.items) }
 {
     match encoding {
         Encoding::Plain => Ok(Vec::from_slice(alloc, bytes)?),

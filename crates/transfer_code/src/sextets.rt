@@ -2,8 +2,9 @@
 ghost use Rattle.std.specs.Prelude.{◌≡◌, ℕ, not, ◌==◌, List, Ok, filter, take_while, IfOk, OnOk};
 ghost use Rattle.base64.specs.Engines.{standard_no_pad};
 ghost use Rattle.base64.specs.GeneralPurpose.{decode_of, encode_of, IsBytes};
-ghost use Rattle.transfer_code.specs.Base64.{is_symbol, completed, decode_base64};
+ghost use Rattle.transfer_code.specs.Base64.{IsEncoded, is_symbol, completed, decode_base64};
 
+use base64::DecodeAllocError;
 use base64::engine::general_purpose::STANDARD_NO_PAD;
 use kit::Memory;
 use std::alloc::Global;
@@ -44,14 +45,17 @@ fn complete(symbols: &mut Vec<u8>) -> Result<(), Memory>
     Ok(())
 }
 
-/// What symbols that an encoder may have written stand for.
+/// What the symbols of an encoder stand for.
 fn decode_exactly(alloc: Global, symbols: &[u8]) -> Result<Vec<u8>, Memory>
+    requires { IsEncoded symbols.now }
     ensures value { IfOk result (λ out. decode_of standard_no_pad symbols.now ≡ Ok out.items) }
     ensures strict { (bytes : List ℕ) → IsBytes bytes → symbols.now ≡ encode_of standard_no_pad bytes → decode_of standard_no_pad symbols.now ≡ Ok bytes }
 {
     match STANDARD_NO_PAD.decode(alloc, symbols) {
         Ok(decoded) => Ok(decoded),
-        Err(_) => Err(Memory),
+        Err(DecodeAllocError::OutOfMemory) => Err(Memory),
+        // This is proved: what was encoded decodes.
+        Err(DecodeAllocError::DecodeError(_)) => unreachable!(),
     }
 }
 
