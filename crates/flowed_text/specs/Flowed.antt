@@ -54,6 +54,7 @@ put_line delsp true line (next ∷ more) =
     record { depth = line.depth; text = (if delsp then unspaced line.text else line.text) ++ next.text } ∷ more
 put_line delsp _ line more = line ∷ more
 
+-- the lines, from the last to the first: whether a line runs on is asked of the next one as it stood
 abbrev pub joined : Bool → List Quoted → List Quoted
 joined delsp [] = []
 joined delsp (line ∷ more) = put_line delsp (runs_on line more) line (joined delsp more)
@@ -62,6 +63,7 @@ joined delsp (line ∷ more) = put_line delsp (runs_on line more) line (joined d
 abbrev pub marks : ℕ → List ℕ
 marks depth = replicate depth 62 ++ (if depth == 0 then [] else 32 ∷ [])
 
+-- the text of lines at their depths
 abbrev pub written : List Quoted → List ℕ
 written lines = text_of (map (λ line. marks line.depth ++ line.text) lines)
 
