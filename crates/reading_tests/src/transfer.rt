@@ -50,7 +50,7 @@ const QUOTED: [(&str, &str); 6] = [
     ("a==\nb", "a=b"),
 ];
 
-const WORDS: [(&str, &str); 12] = [
+const WORDS: [(&str, &str); 13] = [
     ("=?utf-8?Q?J=C3=BCrgen?= =?utf-8?Q?_M?=", "Jürgen M"),
     // The examples of RFC 2047, section 8, and RFC 2231, section 5.
     ("=?ISO-8859-1?Q?Andr=E9?= Pirard", "André Pirard"),
@@ -59,6 +59,7 @@ const WORDS: [(&str, &str); 12] = [
     ("(=?ISO-8859-1?Q?a?=\t =?ISO-8859-1?Q?b?=)", "(ab)"),
     ("(=?ISO-8859-1?Q?a_b?=)", "(a b)"),
     ("=?US-ASCII*EN?Q?Keith_Moore?=", "Keith Moore"),
+    ("=?latin1?B?6Q==?= b", "é b"),
     // What an encoder may not write.
     ("=?utf-8?b?4oKs?= =?latin1?q?=E9?=", "€é"),
     ("=?utf-8?Q?=E2=82?= =?utf-8?Q?=AC?=", "\u{FFFD}\u{FFFD}"),
