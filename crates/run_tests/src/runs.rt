@@ -264,93 +264,97 @@ fn a_text_has_at_most_900_bytes(rt: HostRuntime) -> Result<(), Fail> {
     Ok(())
 }
 
+/// The sender, the date, the id and the text of a mail.
+type Parts = (&'static str, &'static str, &'static str, &'static str);
+
+/// The parts of two mails behind M1, and the list of the three.
+const LISTS: [(Parts, Parts, &str); 5] = [
+    // the latest first
+    (
+        (
+            "ann@x.org",
+            "Wed, 01 May 2024 11:00:00",
+            "a1@x.org",
+            "Me first",
+        ),
+        (
+            "cid@x.org",
+            "Wed, 01 May 2024 09:00:00",
+            "c1@x.org",
+            "Me last",
+        ),
+        "single:ann@x.org | ann@x.org | fresh 1 | 2024-05-01 11:00 | Me first\nsingle:bob@x.org | Bob | fresh 1 | 2024-05-01 10:00 | Hi\nsingle:cid@x.org | cid@x.org | fresh 1 | 2024-05-01 09:00 | Me last\n",
+    ),
+    // equal dates by key
+    (
+        (
+            "cid@x.org",
+            "Wed, 01 May 2024 10:00:00",
+            "c1@x.org",
+            "Third",
+        ),
+        (
+            "Ann B 2 <ann@x.org>",
+            "wed, 01 MAY 2024 10:00:00",
+            "z1@x.org",
+            "First",
+        ),
+        "single:ann@x.org | Ann B 2 | fresh 1 | 2024-05-01 10:00 | First\nsingle:bob@x.org | Bob | fresh 1 | 2024-05-01 10:00 | Hi\nsingle:cid@x.org | cid@x.org | fresh 1 | 2024-05-01 10:00 | Third\n",
+    ),
+    // of one sender the last by date, and the last name
+    (
+        (
+            "Robert <bob@x.org>",
+            "Wed, 01 May 2024 09:00:00",
+            "m2@x.org",
+            "Older",
+        ),
+        (
+            "bob@x.org",
+            "Wed, 01 May 2024 10:30:00",
+            "m0@x.org",
+            "Newest",
+        ),
+        "single:bob@x.org | Bob | fresh 3 | 2024-05-01 10:30 | Newest\n",
+    ),
+    // at one date the last by id
+    (
+        (
+            "Robert <bob@x.org>",
+            "Wed, 01 May 2024 10:00:00",
+            "m2@x.org",
+            "Second",
+        ),
+        (
+            "Rob <bob@x.org>",
+            "Wed, 01 May 2024 10:00:00",
+            "m0@x.org",
+            "Before",
+        ),
+        "single:bob@x.org | Robert | fresh 3 | 2024-05-01 10:00 | Second\n",
+    ),
+    // a date behind the moment is shown at the moment, and a long text is cut
+    (
+        (
+            "ann@x.org",
+            "Wed, 01 May 2030 10:00:00",
+            "a1@x.org",
+            "0123456789012345678901234567890123456789012345678901234567890 and more",
+        ),
+        (
+            "cid@x.org",
+            "Thu, 01 Jan 1970 00:00:00",
+            "c1@x.org",
+            "Oldest",
+        ),
+        "single:ann@x.org | ann@x.org | fresh 1 | 2024-05-01 12:00 | 012345678901234567890123456789012345678901234567890123456789\nsingle:bob@x.org | Bob | fresh 1 | 2024-05-01 10:00 | Hi\nsingle:cid@x.org | cid@x.org | fresh 1 | 1970-01-01 00:00 | Oldest\n",
+    ),
+];
+
 #[test]
 fn lists_of_plain_mboxes(rt: HostRuntime) -> Result<(), Fail> {
     let alloc = rt.alloc();
-    // from, date, id and text of two mails behind M1, and the list of the three
-    let cases = [
-        // the latest first
-        (
-            (
-                "ann@x.org",
-                "Wed, 01 May 2024 11:00:00",
-                "a1@x.org",
-                "Me first",
-            ),
-            (
-                "cid@x.org",
-                "Wed, 01 May 2024 09:00:00",
-                "c1@x.org",
-                "Me last",
-            ),
-            "single:ann@x.org | ann@x.org | fresh 1 | 2024-05-01 11:00 | Me first\nsingle:bob@x.org | Bob | fresh 1 | 2024-05-01 10:00 | Hi\nsingle:cid@x.org | cid@x.org | fresh 1 | 2024-05-01 09:00 | Me last\n",
-        ),
-        // equal dates by key
-        (
-            (
-                "cid@x.org",
-                "Wed, 01 May 2024 10:00:00",
-                "c1@x.org",
-                "Third",
-            ),
-            (
-                "Ann B 2 <ann@x.org>",
-                "wed, 01 MAY 2024 10:00:00",
-                "z1@x.org",
-                "First",
-            ),
-            "single:ann@x.org | Ann B 2 | fresh 1 | 2024-05-01 10:00 | First\nsingle:bob@x.org | Bob | fresh 1 | 2024-05-01 10:00 | Hi\nsingle:cid@x.org | cid@x.org | fresh 1 | 2024-05-01 10:00 | Third\n",
-        ),
-        // of one sender the last by date, and the last name
-        (
-            (
-                "Robert <bob@x.org>",
-                "Wed, 01 May 2024 09:00:00",
-                "m2@x.org",
-                "Older",
-            ),
-            (
-                "bob@x.org",
-                "Wed, 01 May 2024 10:30:00",
-                "m0@x.org",
-                "Newest",
-            ),
-            "single:bob@x.org | Bob | fresh 3 | 2024-05-01 10:30 | Newest\n",
-        ),
-        // at one date the last by id
-        (
-            (
-                "Robert <bob@x.org>",
-                "Wed, 01 May 2024 10:00:00",
-                "m2@x.org",
-                "Second",
-            ),
-            (
-                "Rob <bob@x.org>",
-                "Wed, 01 May 2024 10:00:00",
-                "m0@x.org",
-                "Before",
-            ),
-            "single:bob@x.org | Robert | fresh 3 | 2024-05-01 10:00 | Second\n",
-        ),
-        // a date behind the moment is shown at the moment, and a long text is cut
-        (
-            (
-                "ann@x.org",
-                "Wed, 01 May 2030 10:00:00",
-                "a1@x.org",
-                "0123456789012345678901234567890123456789012345678901234567890 and more",
-            ),
-            (
-                "cid@x.org",
-                "Thu, 01 Jan 1970 00:00:00",
-                "c1@x.org",
-                "Oldest",
-            ),
-            "single:ann@x.org | ann@x.org | fresh 1 | 2024-05-01 12:00 | 012345678901234567890123456789012345678901234567890123456789\nsingle:bob@x.org | Bob | fresh 1 | 2024-05-01 10:00 | Hi\nsingle:cid@x.org | cid@x.org | fresh 1 | 1970-01-01 00:00 | Oldest\n",
-        ),
-    ];
-    for (second, third, list) in cases {
+    for (second, third, list) in LISTS {
         let second = mail(alloc, second.0, second.1, second.2, second.3)?;
         let third = mail(alloc, third.0, third.1, third.2, third.3)?;
         let mbox = format!(in alloc; "{M1}{second}{third}")?;
