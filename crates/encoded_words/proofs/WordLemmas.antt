@@ -6,8 +6,10 @@ use Rattle.std.proofs.lemmas.Bool.{cases_lt}
 use Rattle.std.proofs.lemmas.List.{drop-drop, drop_all, length-drop}
 use Rattle.encoded_words.specs.declared.word.Coding.{Coding}
 use Rattle.kit.specs.Charsets.{charset_of}
+use Rattle.kit.specs.Cuts.{behind}
 use Rattle.kit.specs.Options.{◌>>=◌}
-use Rattle.encoded_words.specs.Words.{Found, behind, cut, word_of, word_at, coding_of, is_charset, is_text, without_language}
+use Rattle.kit.specs.Printing.{is_printing, is_visible}
+use Rattle.encoded_words.specs.Words.{Found, cut, word_of, word_at, coding_of, without_language}
 
 -- the bytes are what is left behind so many others
 abbrev IsRest : List ℕ → List ℕ → Type 0
@@ -42,7 +44,7 @@ behind-rest front all bytes h = go (starts_with nat_eq bytes front)
     go false = tt
 
 word_of-rest : (charset coding text rest all : List ℕ) → IsRest all rest → IfSome (word_of charset coding text rest) (IsFound all)
-word_of-rest charset coding text rest all h = go (is_charset charset && is_text text) (coding_of coding)
+word_of-rest charset coding text rest all h = go (is_visible charset && is_printing text) (coding_of coding)
   where
     go : (b : Bool) (o : Option Coding)
         → IfSome (if b then option_map (λ c. record { charset = charset_of (without_language charset); coding = c; text = text; rest = rest }) o else None) (IsFound all)

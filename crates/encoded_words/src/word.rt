@@ -1,12 +1,13 @@
 //! One encoded word.
 ghost use Rattle.std.specs.Prelude.{◌≡◌, IfOk, map, option_map};
 ghost use Rattle.std.specs.Option.{option_copied};
-ghost use Rattle.std.specs.List.{list_all};
-ghost use Rattle.std.specs.Char.{is_ascii_graphic};
-ghost use Rattle.encoded_words.specs.Words.{behind, is_charset, without_language, coding_of, is_text, word_at, spaced, coded_bytes, word_text};
+ghost use Rattle.kit.specs.Cuts.{behind};
+ghost use Rattle.encoded_words.specs.Words.{without_language, coding_of, word_at, spaced, coded_bytes, word_text};
 ghost use Rattle.encoded_words.specs.Views.{found};
 
-use kit::{Charset, Memory, Text, charset_of, same_name, split_once, to_text};
+use kit::{
+    Charset, Memory, Text, charset_of, is_printing, is_visible, same_name, split_once, to_text,
+};
 use std::alloc::Global;
 use transfer_code::{Encoding, decode_body, unescaped};
 
@@ -35,18 +36,6 @@ fn behind<'a>(front: &[u8], bytes: &'a [u8]) -> Option<&'a [u8]>
     bytes.strip_prefix(front)
 }
 
-fn is_printing(name: &[u8]) -> bool
-    ensures { result ≡ list_all is_ascii_graphic name.now }
-{
-    name.iter().all(|b| b.is_ascii_graphic())
-}
-
-fn is_charset(name: &[u8]) -> bool
-    ensures { result ≡ is_charset name.now }
-{
-    !name.is_empty() && is_printing(name)
-}
-
 /// The name of a charset, without a language behind it.
 fn without_language(name: &[u8]) -> &[u8]
     ensures { result.now ≡ without_language name.now }
@@ -69,12 +58,6 @@ fn coding_of(name: &[u8]) -> Option<Coding>
     }
 }
 
-fn is_text(text: &[u8]) -> bool
-    ensures { result ≡ is_text text.now }
-{
-    text.iter().all(|b| 32 <= *b && *b <= 126)
-}
-
 /// The word that bytes begin with.
 pub fn word_at(bytes: &[u8]) -> Option<Word<'_>>
     ensures { option_map found result ≡ word_at bytes.now }
@@ -83,7 +66,7 @@ pub fn word_at(bytes: &[u8]) -> Option<Word<'_>>
     let (coding, rest) = split_once(rest, b'?')?;
     let (text, rest) = split_once(rest, b'?')?;
     let rest = behind(b"=", rest)?;
-    if !is_charset(charset) || !is_text(text) {
+    if !is_visible(charset) || !is_printing(text) {
         return None;
     }
     Some(Word {

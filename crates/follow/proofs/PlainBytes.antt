@@ -12,8 +12,9 @@ use Rattle.std.specs.Str.{IsUtf8}
 use Rattle.kit.specs.Addresses.{is_addr, is_addr_byte}
 use Rattle.kit.specs.Ids.{is_id, is_id_byte}
 use Rattle.kit.specs.Letters.{lowered}
+use Rattle.kit.specs.Printing.{is_printing_byte}
 use Rattle.kit.specs.Reading.{read_as}
-use Rattle.follow.specs.Plain.{is_plain_byte, is_text_byte, is_plain_text, plain_address, is_plain_word, is_plain_name}
+use Rattle.follow.specs.Plain.{is_plain_byte, is_plain_text, plain_address, is_plain_word, is_plain_name}
 
 plain_lowercase : (b : ℕ) → is_plain_byte b ≡ true → to_ascii_lowercase b ≡ b
 plain_lowercase b h = grind (arith, nat_tests)
@@ -33,7 +34,7 @@ addr_byte_id b h = grind (arith, nat_tests)
 addr_byte_ascii : (b : ℕ) → is_addr_byte b ≡ true → b < 128
 addr_byte_ascii b h = grind (arith, nat_tests)
 
-text_byte_ascii : (b : ℕ) → is_text_byte b ≡ true → b < 128
+text_byte_ascii : (b : ℕ) → is_printing_byte b ≡ true → b < 128
 text_byte_ascii b h = grind (arith, nat_tests)
 
 all_ascii : (test : ℕ → Bool) → ((b : ℕ) → test b ≡ true → b < 128) → (bs : List ℕ) → list_all test bs ≡ true → IsUtf8 bs
@@ -41,8 +42,8 @@ all_ascii test small bs h =
     let each = AllPass-from_list_all test bs h in
     IsUtf8-from_ascii bs (IsAscii-from_all bs (λ k d lt. small _ (each k d lt)))
 
-pub text_utf8 : (bs : List ℕ) → list_all is_text_byte bs ≡ true → IsUtf8 bs
-text_utf8 = all_ascii is_text_byte text_byte_ascii
+pub text_utf8 : (bs : List ℕ) → list_all is_printing_byte bs ≡ true → IsUtf8 bs
+text_utf8 = all_ascii is_printing_byte text_byte_ascii
 
 -- of plain bytes the address is these bytes
 pub plain_address-read : (bs : List ℕ) → list_all is_plain_byte bs ≡ true → read_as is_addr (lowered bs) ≡ plain_address bs

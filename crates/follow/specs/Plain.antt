@@ -1,12 +1,14 @@
 -- A plain mbox: mails of nine lines each, one after the other.
-use Rattle.std.specs.Prelude.{ℕ, ◌+◌, ◌-◌, Bool, true, false, ◌&&◌, ◌||◌, not, nat_le, nat_lt, nat_eq, ◌==◌, if◌then◌else◌, bytes_eq, codes, List, [], ◌∷◌, length, take, drop, map, Option, Some, None, option_map}
+use Rattle.std.specs.Prelude.{ℕ, ◌-◌, Bool, true, false, ◌&&◌, ◌||◌, not, nat_le, nat_lt, nat_eq, ◌==◌, if◌then◌else◌, bytes_eq, codes, List, [], ◌∷◌, length, take, drop, map, Option, Some, None, option_map}
 use Rattle.std.specs.Option.{option_or}
-use Rattle.std.specs.List.{list_all, list_any, slice_split, position, starts_with, ends_with}
+use Rattle.std.specs.List.{list_all, list_any, slice_split, starts_with, ends_with}
 use Rattle.std.specs.Char.{is_ascii_digit, is_ascii_lowercase, is_ascii_alphanumeric}
 use Rattle.kit.specs.Addresses.{is_addr}
+use Rattle.kit.specs.Cuts.{behind, split_once}
 use Rattle.kit.specs.Lines.{raw_lines}
 use Rattle.kit.specs.Reading.{read_as}
 use Rattle.kit.specs.Options.{◌>>=◌}
+use Rattle.kit.specs.Printing.{is_printing}
 use Rattle.follow.specs.declared.card.Card.{Card}
 use Rattle.follow.specs.declared.plain.Sender.{Sender}
 use Rattle.follow.specs.Dates.{plain_moment}
@@ -22,10 +24,6 @@ is_plain_address bytes = list_all is_plain_byte bytes && is_addr bytes
 
 abbrev pub plain_address : List ℕ → Option (List ℕ)
 plain_address = read_as is_plain_address
-
--- the bytes behind a front
-abbrev pub behind : List ℕ → List ℕ → Option (List ℕ)
-behind front bytes = if bytes_eq (take (length front) bytes) front then Some (drop (length front) bytes) else None
 
 -- the bytes before a back
 abbrev pub before : List ℕ → List ℕ → Option (List ℕ)
@@ -43,13 +41,9 @@ is_plain_word word = nat_lt 0 (length word) && list_all is_ascii_alphanumeric wo
 abbrev pub is_plain_name : List ℕ → Bool
 is_plain_name name = list_all is_plain_word (slice_split (λ b. b == 32) name)
 
--- the two parts of `NAME <ADDRESS>`, of which the angle bracket stands at a place
-abbrev pub parts_around : List ℕ → Option ℕ → Option (List ℕ × List ℕ)
-parts_around body None = None
-parts_around body (Some at) = both (before (codes " ") (take at body)) (before (codes ">") (drop (at + 1) body))
-
+-- the two parts of `NAME <ADDRESS>`, cut at the angle bracket (60)
 abbrev pub name_and_address : List ℕ → Option (List ℕ × List ℕ)
-name_and_address body = parts_around body (position (λ b. b == 60) body)
+name_and_address body = split_once body 60 >>= λ p. both (before (codes " ") p.0) (before (codes ">") p.1)
 
 abbrev pub named : List ℕ × List ℕ → Option Sender
 named p = if is_plain_name p.0 && is_plain_address p.1 then Some (record { address = p.1; name = p.0 }) else None
@@ -61,10 +55,6 @@ nameless address = record { address = address; name = [] }
 abbrev pub sender : List ℕ → Option Sender
 sender body = option_or (option_map nameless (plain_address body)) (name_and_address body >>= named)
 
--- a printing byte or a space
-abbrev pub is_text_byte : ℕ → Bool
-is_text_byte b = nat_le 32 b && nat_le b 126
-
 -- no space at either end
 abbrev pub is_trimmed : List ℕ → Bool
 is_trimmed text = not (starts_with nat_eq text (codes " ")) && not (ends_with nat_eq text (codes " "))
@@ -73,10 +63,10 @@ is_trimmed text = not (starts_with nat_eq text (codes " ")) && not (ends_with na
 abbrev pub is_unquoted : List ℕ → Bool
 is_unquoted text = not (starts_with nat_eq text (codes ">")) && not (starts_with nat_eq text (codes "From "))
 
--- a line of 1 to 900 such bytes
+-- a line of 1 to 900 bytes from 32 to 126
 abbrev pub is_plain_text : List ℕ → Bool
 is_plain_text text =
-    nat_le 1 (length text) && nat_le (length text) 900 && list_all is_text_byte text && is_trimmed text && is_unquoted text
+    nat_le 1 (length text) && nat_le (length text) 900 && is_printing text && is_trimmed text && is_unquoted text
 
 -- Of the four lines that differ from mail to mail: who sent it, who is another than oneself; when; its id; what it says.
 abbrev pub read_sender : List ℕ → List ℕ → Option Sender

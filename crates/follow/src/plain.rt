@@ -1,17 +1,17 @@
 //! The mails of a plain mbox: nine lines each, of which five are header fields (RFC 5322, section 3.6; RFC 4155).
 //!
 //! This is the only form of a mailbox that the program reads so far; every other one is not plain.
-ghost use Rattle.std.specs.Prelude.{◌≡◌, ◌<◌, ◌≤◌, ◌==◌, IfOk, IfSome, length, map, option_map, position};
+ghost use Rattle.std.specs.Prelude.{◌≡◌, ◌<◌, ◌≤◌, ◌==◌, IfOk, length, map, option_map};
 ghost use Rattle.std.specs.Char.{is_ascii_alphanumeric};
 ghost use Rattle.std.specs.List.{list_all};
 ghost use Rattle.std.specs.Option.{option_copied};
 ghost use Rattle.kit.specs.Lines.{raw_lines};
-ghost use Rattle.follow.specs.Plain.{is_plain_byte, plain_address, before, between, is_plain_word, is_plain_name, name_and_address, is_text_byte, is_trimmed, is_unquoted, is_plain_text, read_date, read_id, read_text, is_to, is_frame, read_card, card_of, cards_of, are_distinct, plain_cards, longest};
+ghost use Rattle.follow.specs.Plain.{is_plain_byte, plain_address, before, between, is_plain_word, is_plain_name, name_and_address, is_trimmed, is_unquoted, is_plain_text, read_date, read_id, read_text, is_to, is_frame, read_card, card_of, cards_of, are_distinct, plain_cards, longest};
 
 use crate::card::Card;
 use crate::dates::plain_moment;
 use crate::utf8::text_of;
-use kit::{Addr, Id, Memory, Text, lines};
+use kit::{Addr, Id, Memory, Text, is_printing, lines, split_once};
 use std::alloc::Global;
 use std::collections::BTreeSet;
 
@@ -82,21 +82,12 @@ struct Sender {
     name: Text,
 }
 
-fn angle_at(body: &[u8]) -> Option<usize>
-    ensures value { result ≡ position (λ b. b == 60) body.now }
-    ensures bound { IfSome result (λ at. at < length body.now) }
-{
-    body.iter().position(|b| *b == b'<')
-}
-
 /// The two parts of `NAME <ADDRESS>`.
 fn name_and_address(body: &[u8]) -> Option<(&[u8], &[u8])>
     ensures { option_map (λ p. (p.0.now, p.1.now)) result ≡ name_and_address body.now }
 {
-    let at = angle_at(body)?;
-    let name = before(b" ", &body[..at])?;
-    let address = before(b">", &body[at + 1..])?;
-    Some((name, address))
+    let (front, back) = split_once(body, b'<')?;
+    Some((before(b" ", front)?, before(b">", back)?))
 }
 
 impl Sender {
@@ -174,12 +165,6 @@ fn read_id(alloc: Global, line: &[u8]) -> Result<Option<Id>, Memory>
     }
 }
 
-fn are_text_bytes(text: &[u8]) -> bool
-    ensures { result ≡ list_all is_text_byte text.now }
-{
-    text.iter().all(|b| 32 <= *b && *b <= 126)
-}
-
 fn is_trimmed(text: &[u8]) -> bool
     ensures { result ≡ is_trimmed text.now }
 {
@@ -199,7 +184,7 @@ fn is_plain_text(text: &[u8]) -> bool
 {
     1 <= text.len()
         && text.len() <= 900
-        && are_text_bytes(text)
+        && is_printing(text)
         && is_trimmed(text)
         && is_unquoted(text)
 }

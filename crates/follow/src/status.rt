@@ -2,7 +2,6 @@
 ghost use Rattle.std.specs.Prelude.{◌≡◌};
 ghost use Rattle.follow.specs.declared.status.Refusal.TheVariants as refusal;
 
-use crate::whole::WholeFault;
 use kit::Memory;
 
 /// How a run ends.

@@ -6,5 +6,6 @@ pub mod Ids
 pub mod Addresses
 pub mod Charsets
 pub mod White
+pub mod Printing
 pub mod Cuts
 pub mod Moments

@@ -1,5 +1,5 @@
 //! What every other crate stands on: want of memory, bytes that own their memory, texts, message ids,
-//! mail addresses, charsets, lines and white space, and a count of steps. A contract sees bytes, a text,
+//! mail addresses, charsets, lines, white space and printing bytes, and a count of steps. A contract sees bytes, a text,
 //! an id and an address as its list of bytes.
 #![tactic(auto)]
 
@@ -12,6 +12,7 @@ mod letters;
 mod line;
 mod memory;
 mod moment;
+mod printing;
 mod steps;
 mod text;
 mod white;
@@ -25,6 +26,7 @@ pub use letters::{lower, same_name};
 pub use line::{Line, content, lines};
 pub use memory::Memory;
 pub use moment::LAST_MOMENT;
+pub use printing::{is_printing, is_visible};
 pub use steps::Steps;
 pub use text::Text;
 pub use white::{is_white, trim, trim_end};

@@ -1,5 +1,5 @@
 //! Zones, by the seconds that they are ahead of UTC.
-ghost use Rattle.std.specs.Prelude.{◌≡◌, ◌≤◌, IfSome, pos, neg_ℤ};
+ghost use Rattle.std.specs.Prelude.{◌≡◌, ◌≤◌, IfSome};
 ghost use Rattle.jiff_core.specs.Calendar.{IsWithin};
 ghost use Rattle.mail_date.specs.Zones.{hours_and_minutes, offset, seconds_behind, zone_hours, zone_offset};
 

@@ -1,18 +1,15 @@
 -- The fields of a header, by the contents of its lines (RFC 5322, sections 2.2 and 4.5).
-use Rattle.std.specs.Prelude.{ℕ, Bool, false, ◌&&◌, nat_le, if◌then◌else◌, List, [], ◌∷◌, ◌++◌, length, take_while, Option, Some, None, option_map, option_and_then}
-use Rattle.std.specs.List.{list_all, cons_option, concat}
-use Rattle.std.specs.Char.{is_ascii_graphic}
+use Rattle.std.specs.Prelude.{ℕ, Bool, false, if◌then◌else◌, List, [], ◌∷◌, ◌++◌, take_while, Option, Some, None, option_map, option_and_then}
+use Rattle.std.specs.List.{cons_option, concat}
 use Rattle.kit.specs.Cuts.{split_once}
+use Rattle.kit.specs.Printing.{is_visible}
 use Rattle.kit.specs.White.{is_white, trim, trim_end}
 use Rattle.mail_headers.specs.declared.field.Field.{Field}
 
--- one or more bytes from 33 to 126; before the first colon of a line none of them is a colon
-abbrev pub is_name : List ℕ → Bool
-is_name bytes = nat_le 1 (length bytes) && list_all is_ascii_graphic bytes
-
--- what stands before a colon as a name, without white space at its end, and what stands behind
+-- What stands before the first colon of a line as a name, without white space at its end, and what stands behind. A name is
+-- of visible characters, and none of them is a colon.
 abbrev pub named : List ℕ × List ℕ → Option (List ℕ × List ℕ)
-named p = if is_name (trim_end p.0) then Some (trim_end p.0, p.1) else None
+named p = if is_visible (trim_end p.0) then Some (trim_end p.0, p.1) else None
 
 -- the name of a field line, and what follows its colon (58), which is the first in the line
 abbrev pub name_and_rest : List ℕ → Option (List ℕ × List ℕ)

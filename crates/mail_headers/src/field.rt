@@ -1,11 +1,9 @@
 //! Header fields, read from the contents of lines.
 ghost use Rattle.std.specs.Prelude.{◌≡◌, ◌++◌, IfOk, OnOk, map, option_map};
-ghost use Rattle.std.specs.List.{list_all};
-ghost use Rattle.std.specs.Char.{is_ascii_graphic};
-ghost use Rattle.mail_headers.specs.Fields.{is_name, name_and_rest, continues, continuation, fields_of};
+ghost use Rattle.mail_headers.specs.Fields.{name_and_rest, continues, continuation, fields_of};
 ghost use Rattle.kit.specs.White.{trim};
 
-use kit::{Bytes, Memory, is_white, split_once, trim, trim_end};
+use kit::{Bytes, Memory, is_visible, is_white, split_once, trim, trim_end};
 use std::alloc::Global;
 
 /// A field of a header (RFC 5322, section 2.2).
@@ -17,18 +15,6 @@ pub struct Field {
     pub body: Bytes,
 }
 
-fn are_graphic(bytes: &[u8]) -> bool
-    ensures { result ≡ list_all is_ascii_graphic bytes.now }
-{
-    bytes.iter().all(|b| b.is_ascii_graphic())
-}
-
-fn is_name(bytes: &[u8]) -> bool
-    ensures { result ≡ is_name bytes.now }
-{
-    1 <= bytes.len() && are_graphic(bytes)
-}
-
 /// The name of a field line, and what follows its colon. White space before the colon is obsolete
 /// (RFC 5322, section 4.5.8), and not of the name.
 fn name_and_rest(line: &[u8]) -> Option<(&[u8], &[u8])>
@@ -36,7 +22,7 @@ fn name_and_rest(line: &[u8]) -> Option<(&[u8], &[u8])>
 {
     let (front, rest) = split_once(line, b':')?;
     let name = trim_end(front);
-    if !is_name(name) {
+    if !is_visible(name) {
         return None;
     }
     Some((name, rest))

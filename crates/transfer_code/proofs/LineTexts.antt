@@ -2,7 +2,7 @@
 use Rattle.std.proofs.Common.{◌≡◌, ℕ, zero, suc, ◌+◌, ◌*◌, ◌-◌, Bool, true, false, eqb, cond, List, [], ◌∷◌, ◌++◌, length, get_or, take, drop, codes, Option, Some, None, refl, sym, ap, subst, ◌∙◌, arith, inl, inr}
 use Rattle.std.specs.Prelude.{◌&&◌, ◌==◌, nat_eq, if◌then◌else◌, reverse, flat_map}
 use Rattle.std.specs.List.{ends_with, list_all, prefix_len, suffix_len}
-use Rattle.std.proofs.lemmas.Bool.{cases_eq, eq-eqb, ne_eqb, eqb-true}
+use Rattle.std.proofs.lemmas.Bool.{and_parts, cases_eq, eq-eqb, ne_eqb, eqb-true}
 use Rattle.std.proofs.lemmas.List.{length-reverse, get_or-reverse}
 use Rattle.std.proofs.lemmas.Grind.{reverse_onto}
 use Rattle.std.proofs.lemmas.List.Folds.{prefix_len-append}
@@ -172,11 +172,6 @@ line_text_alone broken _ _ (an_escape high low h l rest out e f more) =
 line_text_alone broken _ _ (a_byte b rest out other hard none more) =
     ap (λ t. b ∷ t) (line_text_alone broken rest out more) ∙ sym (at_byte broken b rest other hard none)
 
-both_hold : (v w : Bool) → (v && w) ≡ true → (v ≡ true) × (w ≡ true)
-both_hold true true e = (refl, refl)
-both_hold true false e = absurd cc
-both_hold false w e = absurd cc
-
 of_escape : (broken : Bool) (c v : ℕ) (cs : List ℕ) → escape_in 61 (c ∷ cs) ≡ Some v → LineText broken (drop 2 cs) (line_text (drop 2 cs) broken)
     → LineText broken (c ∷ cs) (line_text (c ∷ cs) broken)
 of_escape broken c v [] e more = absurd cc
@@ -192,7 +187,7 @@ of_escape broken c v (high ∷ low ∷ rest) e more = elim (cases_eq c 61) [
 
 of_soft_break : (broken : Bool) (c : ℕ) (cs : List ℕ) → (c == 61 && list_all is_white cs) ≡ true → LineText broken (c ∷ cs) (line_text (c ∷ cs) broken)
 of_soft_break broken c cs soft =
-    let b = both_hold (c == 61) (list_all is_white cs) soft in
+    let b = and_parts (c == 61) (list_all is_white cs) soft in
     subst (λ a. LineText broken (a ∷ cs) (line_text (a ∷ cs) broken)) (sym (eqb-true c 61 b.0))
     (subst (λ t. LineText broken (61 ∷ cs) t) (sym (at_soft_break broken cs b.1)) (soft_break cs b.1))
 
