@@ -6,7 +6,7 @@ use Rattle.std.specs.Str.{chars}
 use lib.Utf8.{encode}
 use Rattle.jiff_core.specs.Calendar.{days_from_civil, day_count, days_of_years, days_of_months}
 use Rattle.follow.specs.declared.status.Refusal.TheVariants as refusal
-use Rattle.follow.specs.Dates.{plain_moment}
+use Rattle.mail_date.specs.Moment.{moment}
 use Rattle.follow.specs.Times.{time_text, civil_date, span_and_rest}
 use Rattle.follow.specs.Outcome.{outcome}
 
@@ -22,7 +22,7 @@ abbrev first : List ℕ
 first = mail (codes "Bob <bob@x.org>") (codes "Wed, 01 May 2024 10:00:00") (codes "m1@x.org") (codes "Hi")
 
 one_plain_mail : outcome words false first ≡ Ok (codes "single:bob@x.org | Bob | fresh 1 | 2024-05-01 10:00 | Hi\n")
-unfolding plain_moment days_from_civil day_count days_of_years days_of_months time_text civil_date span_and_rest digits chars encode
+unfolding moment days_from_civil day_count days_of_years days_of_months time_text civil_date span_and_rest digits chars encode
 one_plain_mail = refl
 
 empty_mbox : outcome words false [] ≡ Ok []
@@ -31,17 +31,17 @@ empty_mbox = refl
 -- two senders, the latest first; a date behind the moment counts as the moment
 two_chats : outcome words false (first ++ mail (codes "ann@x.org") (codes "Wed, 01 May 2030 10:00:00") (codes "a1@x.org") (codes "Late"))
     ≡ Ok (codes "single:ann@x.org | ann@x.org | fresh 1 | 2024-05-01 12:00 | Late\nsingle:bob@x.org | Bob | fresh 1 | 2024-05-01 10:00 | Hi\n")
-unfolding plain_moment days_from_civil day_count days_of_years days_of_months time_text civil_date span_and_rest digits chars encode
+unfolding moment days_from_civil day_count days_of_years days_of_months time_text civil_date span_and_rest digits chars encode
 two_chats = refl
 
 -- of one sender the last mail and the last name
 one_sender : outcome words false (first ++ mail (codes "Robert <bob@x.org>") (codes "Wed, 01 May 2024 09:00:00") (codes "m2@x.org") (codes "Older"))
     ≡ Ok (codes "single:bob@x.org | Bob | fresh 2 | 2024-05-01 10:00 | Hi\n")
-unfolding plain_moment days_from_civil day_count days_of_years days_of_months time_text civil_date span_and_rest digits chars encode
+unfolding moment days_from_civil day_count days_of_years days_of_months time_text civil_date span_and_rest digits chars encode
 one_sender = refl
 
 one_id_twice : outcome words false (first ++ first) ≡ Err refusal.Unbuilt
-unfolding plain_moment days_from_civil day_count days_of_years days_of_months
+unfolding moment days_from_civil day_count days_of_years days_of_months
 one_id_twice = refl
 
 from_oneself : outcome words false (mail (codes "me@x.org") (codes "Wed, 01 May 2024 10:00:00") (codes "m1@x.org") (codes "Hi")) ≡ Err refusal.Unbuilt

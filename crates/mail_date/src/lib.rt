@@ -1,5 +1,5 @@
-//! The moment that a Date field of a mail names (RFC 5322, sections 3.3 and 4.3), and the numbers,
-//! names and days that dates are made of.
+//! The moment that a Date field of a mail names (RFC 5322, sections 3.3 and 4.3), and the numbers that
+//! dates are made of.
 #![tactic(auto)]
 
 mod clock;
@@ -11,6 +11,5 @@ mod words;
 mod zones;
 
 pub use date::moment;
-pub use days::{SECONDS_PER_DAY, day_number, natural};
+pub use days::SECONDS_PER_DAY;
 pub use digits::number;
-pub use names::{MONTHS, WEEKDAYS, place_in};
