@@ -1,8 +1,7 @@
 -- The mailbox that a command finds has the mails in their order of arrival.
-use Rattle.std.proofs.Common.{◌≡◌, ◌+◌, max, List, [], ◌∷◌, ◌++◌, map, ap, sym, ◌∙◌, arith, append_assoc}
+use Rattle.std.proofs.Common.{◌≡◌, ℕ, ◌+◌, max, List, [], ◌∷◌, ◌++◌, map, ap, sym, ◌∙◌, arith, append_assoc}
 use Rattle.std.proofs.lemmas.List.{append-nil, map-append}
 use Rattle.follow.specs.declared.card.Card.{Card}
-use Rattle.follow.specs.declared.words.Command.{Command}
 use Rattle.follow.specs.Mailbox.{Item, Mailbox, item, after_all, mail_of, mail_cmp, sorted_by, arrivals}
 use Rattle.follow.specs.Mailbox.Change.{Arrive}
 use Rattle.follow.specs.Lists.{list, list_of}
@@ -18,8 +17,8 @@ arrived m (card ∷ cards) =
     ∙ append_assoc (map mail_of m.items) (mail_of next ∷ []) (arrivals (m.next_uid + 1) m.now cards)
 
 -- so its list is that of the arrivals in mail order
-pub list-followed : (c : Command) (cards : List Card) → list (followed c cards) ≡ list_of (sorted_by mail_cmp (arrivals 1 c.at cards))
-list-followed c cards =
-    let moment : max 0 c.at ≡ c.at = omega arith in
-    let start : Mailbox = record { me = c.me; now = max 0 c.at; next_uid = 1; items = [] } in
+pub list-followed : (me : List ℕ) (at : ℕ) (cards : List Card) → list (followed me at cards) ≡ list_of (sorted_by mail_cmp (arrivals 1 at cards))
+list-followed me at cards =
+    let moment : max 0 at ≡ at = omega arith in
+    let start : Mailbox = record { me = me; now = max 0 at; next_uid = 1; items = [] } in
     ap (λ mails. list_of (sorted_by mail_cmp mails)) (arrived start cards ∙ ap (λ now. arrivals 1 now cards) moment)

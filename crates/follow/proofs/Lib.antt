@@ -2,6 +2,7 @@
 pub mod Arrivals
 pub mod CivilLemmas
 mod DateRows
+pub mod Clocks
 pub mod Distinct
 pub mod Followed
 pub mod ListLemmas
@@ -14,3 +15,7 @@ mod Rows
 pub mod Senders
 pub mod Sorted
 pub mod Taken
+pub mod TrialNumbers
+pub mod WordLaws
+pub mod WordReadings
+mod WordRows

@@ -21,40 +21,40 @@ mail from date id text =
 abbrev first : List ℕ
 first = mail (codes "Bob <bob@x.org>") (codes "Wed, 01 May 2024 10:00:00") (codes "m1@x.org") (codes "Hi")
 
-one_plain_mail : outcome words false first ≡ Ok (codes "single:bob@x.org | Bob | fresh 1 | 2024-05-01 10:00 | Hi\n")
+one_plain_mail : outcome words false first 0 ≡ Ok (codes "single:bob@x.org | Bob | fresh 1 | 2024-05-01 10:00 | Hi\n")
 unfolding moment days_from_civil day_count days_of_years days_of_months time_text civil_date span_and_rest digits chars encode
 one_plain_mail = refl
 
-empty_mbox : outcome words false [] ≡ Ok []
+empty_mbox : outcome words false [] 0 ≡ Ok []
 empty_mbox = refl
 
 -- two senders, the latest first; a date behind the moment counts as the moment
-two_chats : outcome words false (first ++ mail (codes "ann@x.org") (codes "Wed, 01 May 2030 10:00:00") (codes "a1@x.org") (codes "Late"))
+two_chats : outcome words false (first ++ mail (codes "ann@x.org") (codes "Wed, 01 May 2030 10:00:00") (codes "a1@x.org") (codes "Late")) 0
     ≡ Ok (codes "single:ann@x.org | ann@x.org | fresh 1 | 2024-05-01 12:00 | Late\nsingle:bob@x.org | Bob | fresh 1 | 2024-05-01 10:00 | Hi\n")
 unfolding moment days_from_civil day_count days_of_years days_of_months time_text civil_date span_and_rest digits chars encode
 two_chats = refl
 
 -- of one sender the last mail and the last name
-one_sender : outcome words false (first ++ mail (codes "Robert <bob@x.org>") (codes "Wed, 01 May 2024 09:00:00") (codes "m2@x.org") (codes "Older"))
+one_sender : outcome words false (first ++ mail (codes "Robert <bob@x.org>") (codes "Wed, 01 May 2024 09:00:00") (codes "m2@x.org") (codes "Older")) 0
     ≡ Ok (codes "single:bob@x.org | Bob | fresh 2 | 2024-05-01 10:00 | Hi\n")
 unfolding moment days_from_civil day_count days_of_years days_of_months time_text civil_date span_and_rest digits chars encode
 one_sender = refl
 
-one_id_twice : outcome words false (first ++ first) ≡ Err refusal.Unbuilt
+one_id_twice : outcome words false (first ++ first) 0 ≡ Err refusal.Unbuilt
 unfolding moment days_from_civil day_count days_of_years days_of_months
 one_id_twice = refl
 
-from_oneself : outcome words false (mail (codes "me@x.org") (codes "Wed, 01 May 2024 10:00:00") (codes "m1@x.org") (codes "Hi")) ≡ Err refusal.Unbuilt
+from_oneself : outcome words false (mail (codes "me@x.org") (codes "Wed, 01 May 2024 10:00:00") (codes "m1@x.org") (codes "Hi")) 0 ≡ Err refusal.Unbuilt
 from_oneself = refl
 
-no_final_line : outcome words false (codes "From -\n") ≡ Err refusal.Unbuilt
+no_final_line : outcome words false (codes "From -\n") 0 ≡ Err refusal.Unbuilt
 no_final_line = refl
 
-a_steps_file : outcome words true first ≡ Err refusal.Unbuilt
+a_steps_file : outcome words true first 0 ≡ Err refusal.Unbuilt
 a_steps_file = refl
 
-no_words : outcome [] false first ≡ Err refusal.Usage
+no_words : outcome [] false first 0 ≡ Err refusal.Usage
 no_words = refl
 
-no_moment : outcome (codes "--me" ∷ codes "me@x.org" ∷ codes "--at" ∷ codes "253402300800" ∷ codes "list" ∷ []) false first ≡ Err refusal.Usage
+no_moment : outcome (codes "--me" ∷ codes "me@x.org" ∷ codes "--at" ∷ codes "253402300800" ∷ codes "list" ∷ []) false first 0 ≡ Err refusal.Usage
 no_moment = refl

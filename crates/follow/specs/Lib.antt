@@ -3,6 +3,8 @@ pub mod Options
 pub mod Dates
 pub mod Times
 pub mod Words
+pub mod Views
+pub mod Grammar
 pub mod Plain
 pub mod Mailbox
 pub mod Lists

@@ -1,15 +1,15 @@
 -- What a run answers, by its words, by whether a steps file is given, and by what its devices tell.
-use Rattle.std.specs.Prelude.{◌≡◌, ◌⊎◌, ℕ, Bool, true, false, List, ◌∷◌, map, Result, Ok, Err, Option, None, Some, option_map, ok_or, ⊤, String, string_bytes}
+use Rattle.std.specs.Prelude.{◌≡◌, ◌⊎◌, ℕ, Bool, true, false, ◌&&◌, not, if◌then◌else◌, List, ◌∷◌, map, Result, Ok, Err, Option, None, Some, option_map, is_none, unwrap_or, ok_or, ⊤, String, string_bytes}
 use Rattle.std.specs.Io.KnownBytes.{Appends}
 use Rattle.outside.specs.Bytes.{AppendsFront}
 use Rattle.follow.specs.declared.card.Card.{Card}
-use Rattle.follow.specs.declared.words.Command.{Command}
+use Rattle.follow.specs.declared.words.Request.{Request}
 use Rattle.follow.specs.declared.status.Input.TheVariants.{Mbox, Steps}
 use Rattle.follow.specs.declared.status.Refusal.{Refusal}
 use Rattle.follow.specs.declared.status.Refusal.TheVariants as refusal
 use Rattle.follow.specs.declared.status.Status.{Status}
 use Rattle.follow.specs.declared.status.Status.TheVariants as status
-use Rattle.follow.specs.Words.{command}
+use Rattle.follow.specs.Words.{is_list, request}
 use Rattle.follow.specs.Plain.{plain_cards}
 use Rattle.follow.specs.Mailbox.{Mailbox, empty_mailbox, after_all}
 use Rattle.follow.specs.Mailbox.Change.{Arrive, At}
@@ -17,28 +17,47 @@ use Rattle.follow.specs.Lists.{list}
 use Rattle.follow.specs.Texts.{list_text}
 use Rattle.follow.specs.Statuses.{status_of, line_of}
 
--- the mailbox that a command finds: at its moment the mails arrive, one after the other
-abbrev pub followed : Command → List Card → Mailbox
-followed c cards = after_all (empty_mailbox c.me) (At c.at ∷ map Arrive cards)
+-- the mailbox that a run finds: at its moment the mails arrive, one after the other
+abbrev pub followed : List ℕ → ℕ → List Card → Mailbox
+followed me moment cards = after_all (empty_mailbox me) (At moment ∷ map Arrive cards)
 
 -- the printed list of that mailbox, where the mbox is plain
-abbrev pub answer_to : Command → List ℕ → Option (List ℕ)
-answer_to c mbox = option_map (λ cards. list_text (list (followed c cards))) (plain_cards c.me mbox)
+abbrev pub answer_to : List ℕ → ℕ → List ℕ → Option (List ℕ)
+answer_to me moment mbox = option_map (λ cards. list_text (list (followed me moment cards))) (plain_cards me mbox)
 
--- why a run ends before it reads anything
-abbrev pub early : Option Command → Bool → Option Refusal
+-- why a run ends before it reads anything: only the list is printed yet, and no steps file is read
+abbrev pub early : Option Request → Bool → Option Refusal
 early None given = Some refusal.Usage
-early (Some c) true = Some refusal.Unbuilt
-early (Some c) false = None
+early (Some r) given = if is_list r.command && not given then None else Some refusal.Unbuilt
 
--- the answer, or why there is none
-abbrev pub outcome_of : Option Command → Bool → List ℕ → Result (List ℕ) Refusal
-outcome_of None given mbox = Err refusal.Usage
-outcome_of (Some c) true mbox = Err refusal.Unbuilt
-outcome_of (Some c) false mbox = ok_or (answer_to c mbox) refusal.Unbuilt
+-- whether a run asks the clock: it reads the mbox, and its words tell no moment
+abbrev pub asks : Option Request → Bool → Bool
+asks None given = false
+asks (Some r) given = is_none (early (Some r) given) && is_none r.at
 
-abbrev pub outcome : List (List ℕ) → Bool → List ℕ → Result (List ℕ) Refusal
-outcome words given mbox = outcome_of (command words) given mbox
+-- the moment of a run: that of its words, or else the clock's
+abbrev pub moment_of_run : Request → ℕ → ℕ
+moment_of_run r clock = unwrap_or r.at clock
+
+-- the answer, or why there is none; the last number is what the clock tells
+abbrev pub outcome_of : Option Request → Bool → List ℕ → ℕ → Result (List ℕ) Refusal
+outcome_of None given mbox clock = Err refusal.Usage
+outcome_of (Some r) given mbox clock =
+    if is_list r.command && not given then ok_or (answer_to r.me (moment_of_run r clock) mbox) refusal.Unbuilt
+    else Err refusal.Unbuilt
+
+abbrev pub outcome : List (List ℕ) → Bool → List ℕ → ℕ → Result (List ℕ) Refusal
+outcome words given mbox clock = outcome_of (request words) given mbox clock
+
+-- What became of a clock: where it was needed it was asked once, or the run ended before; else it stands as it was.
+abbrev pub AsksClock : {C : Type 0} → (C → C → ℕ → Type 0) → Bool → C → C → Type 0 → Type 0
+AsksClock asked false before after ended = after ≡ before
+AsksClock asked true before after ended = ((moment : ℕ) × asked before after moment) ⊎ ((after ≡ before) × ended)
+
+-- the moment that the clock tells, where it is needed
+abbrev pub Tells : Bool → Option ℕ → ℕ → Type 0
+Tells false told moment = ⊤
+Tells true told moment = told ≡ Some moment
 
 -- A status comes exactly where this holds, but for want of memory.
 pub record ComesWhere (answered : Status) (holds : Type 0) (result : Status) : Type 0 where

@@ -1,15 +1,16 @@
 //! The whole run.
-ghost use Rattle.std.specs.Prelude.{◌≡◌, ◌≤◌, ◌+◌, ◌⊎◌, List, ℕ, Ok, None, Some, IfOk, IfSome, IsErrOf, is_some, length, option_map, string_bytes};
+ghost use Rattle.std.specs.Prelude.{◌≡◌, ◌≤◌, ◌+◌, ◌⊎◌, List, ℕ, Ok, None, Some, IfOk, IfSome, IsErrOf, is_none, is_some, length, option_map, string_bytes};
 ghost use Rattle.std.specs.Io.KnownBytes.{Appends, Consumes};
 ghost use Rattle.outside.specs.Causes.{Rose};
 ghost use Rattle.outside.specs.Lent.{IfLent};
 ghost use Rattle.kit.specs.Moments.{last_moment};
+ghost use Rattle.follow.specs.Grammar.{IsNoRequest};
 ghost use Rattle.follow.specs.Lists.{list};
-ghost use Rattle.follow.specs.Outcome.{answer_to, early, followed, outcome, ComesWhere, Agrees, PutsAnswer, PutsLine, IsOutcome};
+ghost use Rattle.follow.specs.Outcome.{answer_to, asks, early, followed, moment_of_run, outcome, AsksClock, ComesWhere, Agrees, PutsAnswer, PutsLine, IsOutcome, Tells};
 ghost use Rattle.follow.specs.Plain.{longest};
 ghost use Rattle.follow.specs.Statuses.{status_of};
 ghost use Rattle.follow.specs.Texts.{list_text};
-ghost use Rattle.follow.specs.Words.{command};
+ghost use Rattle.follow.specs.Words.{request};
 
 use crate::card::Card;
 use crate::list::list_of;
@@ -18,8 +19,8 @@ use crate::plain::plain_cards;
 use crate::printed::list_text;
 use crate::status::{Input, Refusal, Status};
 use crate::whole::{WholeFault, read_whole};
-use crate::words::Command;
-use kit::{Memory, Steps, Text};
+use crate::words::Request;
+use kit::{Addr, Memory, Steps, Text};
 use outside::{Clock, Shelf, Sink, Source};
 use std::alloc::Global;
 use std::sync::ledger::Ledger;
@@ -27,24 +28,24 @@ use std::sync::ledger::Ledger;
 /// No plain mbox has more bytes.
 const LONGEST: usize = 1_048_576;
 
-/// The printed list of the chats of the mails that arrive at the command's moment.
-fn print_cards(alloc: Global, command: &Command, cards: Vec<Card>) -> Result<String, Memory>
-    requires { command.now.at ≤ last_moment }
-    ensures { IfOk result (λ text. string_bytes text ≡ list_text (list (followed command.now cards.items))) }
+/// The printed list of the chats of the mails that arrive at a moment.
+fn print_cards(alloc: Global, moment: u64, cards: Vec<Card>) -> Result<String, Memory>
+    requires { moment ≤ last_moment }
+    ensures { (me : List ℕ) → IfOk result (λ text. string_bytes text ≡ list_text (list (followed me moment cards.items))) }
 {
-    let mails = mail_order(alloc, command.at, cards)?;
+    let mails = mail_order(alloc, moment, cards)?;
     let rows = list_of(alloc, &mails)?;
     list_text(alloc, &rows)
 }
 
-/// The answer to a command over an mbox; none where this is not plain.
-fn answer(alloc: Global, command: &Command, mbox: &[u8]) -> Result<Option<String>, Memory>
+/// The list of the chats in a mailbox of `me` whose mails arrive at a moment; none where the mbox is not plain.
+fn answer(alloc: Global, me: &Addr, moment: u64, mbox: &[u8]) -> Result<Option<String>, Memory>
     requires bytes { length mbox.now ≤ longest }
-    requires moment { command.now.at ≤ last_moment }
-    ensures { IfOk result (λ answer. option_map (λ text. string_bytes text) answer ≡ answer_to command.now mbox.now) }
+    requires moment { moment ≤ last_moment }
+    ensures { IfOk result (λ answer. option_map (λ text. string_bytes text) answer ≡ answer_to me.now moment mbox.now) }
 {
-    match plain_cards(alloc, &command.me, mbox)? {
-        Some(cards) => Ok(Some(print_cards(alloc, command, cards)?)),
+    match plain_cards(alloc, me, mbox)? {
+        Some(cards) => Ok(Some(print_cards(alloc, moment, cards)?)),
         None => Ok(None),
     }
 }
@@ -67,55 +68,76 @@ fn read_mbox<M: Source>(alloc: Global, mbox: &mut M) -> Result<Vec<u8>, Refusal>
     }
 }
 
+/// The moment of a run, for which the clock is asked where the words tell none.
+fn moment_of_run<C: Clock>(request: &Request, clock: &mut C) -> u64
+    requires { IfSome request.now.at (λ at. at ≤ last_moment) }
+    ensures bound { result ≤ last_moment }
+    ensures told { (told : ℕ) → Tells (is_none request.now.at) (C.next clock.old) told → result ≡ moment_of_run request.now told }
+    ensures clock { AsksClock C.asked (is_none request.now.at) clock.old clock.new ⊥ }
+{
+    match request.at {
+        Some(moment) => moment,
+        None => clock.now(),
+    }
+}
+
 /// The answer to the words, or why there is none.
-fn reply<M: Source>(
+fn reply<M: Source, C: Clock>(
     alloc: Global,
     words: &[Text],
     given: bool,
     mbox: &mut M,
+    clock: &mut C,
 ) -> Result<String, Refusal>
-    ensures usage { IsErrOf result Refusal.Usage → command words.now ≡ None }
-    ensures early { IfSome (early (command words.now) given) (λ why. IsErrOf result why ⊎ IsErrOf result Refusal.Memory) }
-    ensures untouched { IfSome (early (command words.now) given) (λ why. mbox.new ≡ mbox.old) }
+    ensures usage { IsErrOf result Refusal.Usage → request words.now ≡ None }
+    ensures early { IfSome (early (request words.now) given) (λ why. IsErrOf result why ⊎ IsErrOf result Refusal.Memory) }
+    ensures untouched { IfSome (early (request words.now) given) (λ why. mbox.new ≡ mbox.old) }
     ensures read { IsErrOf result (Refusal.Read Input.Mbox) → Rose (M.faults mbox.old) (M.faults mbox.new) }
     ensures no_steps { IsErrOf result (Refusal.Read Input.Steps) → ⊥ }
-    ensures told { (bytes : List ℕ) → M.left mbox.old ≡ Some bytes → IsOutcome (outcome words.now given bytes) result }
+    ensures told { (bytes : List ℕ) (moment : ℕ) → M.left mbox.old ≡ Some bytes
+        → Tells (asks (request words.now) given) (C.next clock.old) moment → IsOutcome (outcome words.now given bytes moment) result }
+    ensures clock { AsksClock C.asked (asks (request words.now) given) clock.old clock.new (IsErrOf result Refusal.Memory) }
     ensures taken { (piece : List ℕ) × (length piece ≤ longest + 1) × Consumes (M.left mbox.old) (M.left mbox.new) piece }
 {
-    let Some(command) = Command::read(alloc, words)? else {
+    let Some(request) = Request::read(alloc, words)? else {
         return Err(Refusal::Usage);
     };
-    if given {
+    if given || !request.command.is_list() {
         return Err(Refusal::Unbuilt);
     }
+    let moment = moment_of_run(&request, clock);
     let bytes = read_mbox(alloc, mbox)?;
-    match answer(alloc, &command, &bytes)? {
+    match answer(alloc, &request.me, moment, &bytes)? {
         Some(text) => Ok(text),
         None => Err(Refusal::Unbuilt),
     }
 }
 
 /// The run, with a flag that says whether a steps file is given.
-fn run_given<M: Source, K: Sink>(
+fn run_given<M: Source, C: Clock, K: Sink>(
     alloc: Global,
     words: &[Text],
     given: bool,
     mbox: &mut M,
+    clock: &mut C,
     out: &mut K,
 ) -> Status
-    ensures usage { ComesWhere Status.Usage (command words.now ≡ None) result }
-    ensures early { IfSome (early (command words.now) given) (λ why. (result ≡ status_of why) ⊎ (result ≡ Status.Memory)) }
+    ensures usage { ComesWhere Status.Usage (request words.now ≡ None) result }
+    ensures early { IfSome (early (request words.now) given) (λ why. (result ≡ status_of why) ⊎ (result ≡ Status.Memory)) }
     ensures read { result ≡ Status.Read → Rose (M.faults mbox.old) (M.faults mbox.new) }
     ensures write { result ≡ Status.Write → Rose (K.faults out.old) (K.faults out.new) }
-    ensures status { (bytes : List ℕ) → M.left mbox.old ≡ Some bytes → Agrees (outcome words.now given bytes) result }
-    ensures answer { (bytes : List ℕ) → M.left mbox.old ≡ Some bytes
-        → PutsAnswer (K.held out.old) (K.held out.new) (outcome words.now given bytes) result }
+    ensures status { (bytes : List ℕ) (moment : ℕ) → M.left mbox.old ≡ Some bytes
+        → Tells (asks (request words.now) given) (C.next clock.old) moment → Agrees (outcome words.now given bytes moment) result }
+    ensures answer { (bytes : List ℕ) (moment : ℕ) → M.left mbox.old ≡ Some bytes
+        → Tells (asks (request words.now) given) (C.next clock.old) moment
+        → PutsAnswer (K.held out.old) (K.held out.new) (outcome words.now given bytes moment) result }
     ensures line { PutsLine (K.held out.old) (K.held out.new) (Rose (M.faults mbox.old) (M.faults mbox.new))
         (Rose (K.faults out.old) (K.faults out.new)) result }
-    ensures untouched { IfSome (early (command words.now) given) (λ why. mbox.new ≡ mbox.old) }
+    ensures untouched { IfSome (early (request words.now) given) (λ why. mbox.new ≡ mbox.old) }
     ensures taken { (piece : List ℕ) × (length piece ≤ longest + 1) × Consumes (M.left mbox.old) (M.left mbox.new) piece }
+    ensures clock { AsksClock C.asked (asks (request words.now) given) clock.old clock.new (result ≡ Status.Memory) }
 {
-    match reply(alloc, words, given, mbox) {
+    match reply(alloc, words, given, mbox, clock) {
         Ok(text) => match out.put(text.as_bytes()) {
             Ok(()) => Status::Ok,
             Err(_) => Status::Write,
@@ -147,35 +169,39 @@ pub fn run<M: Source, S: Source, H: Shelf, C: Clock, K: Sink, L: Ledger>(
     steps: &mut Steps<L>,
 ) -> Status
     // When each status comes.
-    ensures usage { ComesWhere Status.Usage (command words.now ≡ None) result }
-    ensures early { IfSome (early (command words.now) (is_some steps_file.entry)) (λ why. (result ≡ status_of why) ⊎ (result ≡ Status.Memory)) }
+    ensures usage { ComesWhere Status.Usage (IsNoRequest words.now) result }
+    ensures early { IfSome (early (request words.now) (is_some steps_file.entry)) (λ why. (result ≡ status_of why) ⊎ (result ≡ Status.Memory)) }
     ensures read { result ≡ Status.Read → Rose (M.faults mbox.old) (M.faults mbox.new) }
     ensures write { result ≡ Status.Write → Rose (K.faults out.old) (K.faults out.new) }
-    // Where the mbox is told, any status but Read and Memory is that of the outcome.
-    ensures status { (bytes : List ℕ) → M.left mbox.old ≡ Some bytes → Agrees (outcome words.now (is_some steps_file.entry) bytes) result }
+    // Where the mbox is told, and the moment of a clock that is asked, any status but Read and Memory is that of the outcome.
+    ensures status { (bytes : List ℕ) (moment : ℕ) → M.left mbox.old ≡ Some bytes
+        → Tells (asks (request words.now) (is_some steps_file.entry)) (C.next clock.old) moment
+        → Agrees (outcome words.now (is_some steps_file.entry) bytes moment) result }
 
     // What is put.
-    ensures answer { (bytes : List ℕ) → M.left mbox.old ≡ Some bytes
-        → PutsAnswer (K.held out.old) (K.held out.new) (outcome words.now (is_some steps_file.entry) bytes) result }
+    ensures answer { (bytes : List ℕ) (moment : ℕ) → M.left mbox.old ≡ Some bytes
+        → Tells (asks (request words.now) (is_some steps_file.entry)) (C.next clock.old) moment
+        → PutsAnswer (K.held out.old) (K.held out.new) (outcome words.now (is_some steps_file.entry) bytes moment) result }
     ensures line { PutsLine (K.held out.old) (K.held out.new) (Rose (M.faults mbox.old) (M.faults mbox.new))
         (Rose (K.faults out.old) (K.faults out.new)) result }
 
     // Where nothing fails, the answer comes, or want of memory.
-    ensures complete { (bytes text : List ℕ) → M.left mbox.old ≡ Some bytes
-        → outcome words.now (is_some steps_file.entry) bytes ≡ Ok text
+    ensures complete { (bytes text : List ℕ) (moment : ℕ) → M.left mbox.old ≡ Some bytes
+        → Tells (asks (request words.now) (is_some steps_file.entry)) (C.next clock.old) moment
+        → outcome words.now (is_some steps_file.entry) bytes moment ≡ Ok text
         → ¬ Rose (M.faults mbox.old) (M.faults mbox.new) → ¬ Rose (K.faults out.old) (K.faults out.new)
         → (result ≡ Status.Ok × Appends (K.held out.old) (K.held out.new) text) ⊎ (result ≡ Status.Memory) }
 
     // What is asked of the devices.
-    ensures untouched { IfSome (early (command words.now) (is_some steps_file.entry)) (λ why. mbox.new ≡ mbox.old) }
+    ensures untouched { IfSome (early (request words.now) (is_some steps_file.entry)) (λ why. mbox.new ≡ mbox.old) }
     ensures taken { (piece : List ℕ) × (length piece ≤ longest + 1) × Consumes (M.left mbox.old) (M.left mbox.new) piece }
     ensures steps_file { IfLent steps_file.entry steps_file.exit (λ before after. after ≡ before) }
     ensures shelf { shelf.new ≡ shelf.old }
-    ensures clock { clock.new ≡ clock.old }
+    ensures clock { AsksClock C.asked (asks (request words.now) (is_some steps_file.entry)) clock.old clock.new (result ≡ Status.Memory) }
     ensures cost { steps.new ≡ steps.old }
 {
     match steps_file {
-        Some(_) => run_given(alloc, words, true, mbox, out),
-        None => run_given(alloc, words, false, mbox, out),
+        Some(_) => run_given(alloc, words, true, mbox, clock, out),
+        None => run_given(alloc, words, false, mbox, clock, out),
     }
 }

@@ -1,20 +1,68 @@
 //! The words of the command line.
 ghost use Rattle.std.specs.Prelude.{◌≡◌, ◌≤◌, IfOk, IfSome};
 ghost use Rattle.kit.specs.Moments.{last_moment};
-ghost use Rattle.follow.specs.Words.{moment_of};
+ghost use Rattle.std.specs.Char.{is_ascii_digit};
+ghost use Rattle.std.specs.List.{list_all};
+ghost use Rattle.std.specs.Option.{option_copied};
+ghost use Rattle.follow.specs.Words.{is_value, joined, moment_of, moment_if_given, trial_of, own_address};
 
 use crate::plain::plain_address;
 use kit::{Addr, LAST_MOMENT, Memory, Text};
 use mail_date::number;
 use std::alloc::Global;
 
-/// What the words ask for: the list of chats.
+/// What a run is to print.
 #[derive(Drop)]
-pub struct Command {
+pub enum Command {
+    /// The list of all chats.
+    List,
+    /// All contacts.
+    Contacts,
+    /// The page of the chat with this key.
+    Chat(Text),
+    /// The updates of the app in the mail with this id, or only those that have an info.
+    Updates { id: Text, info: bool },
+    /// The summary of the trial mailbox with this number.
+    Trial(u64),
+}
+
+/// What the words of a command line ask for.
+#[derive(Drop)]
+pub struct Request {
     /// The own address.
     pub me: Addr,
-    /// The moment of the run, in seconds since 1970.
-    pub at: u64,
+    /// The moment of the run in seconds since 1970, where the words tell one.
+    pub at: Option<u64>,
+    /// What is to be printed.
+    pub command: Command,
+}
+
+/// What the options say, as it is written, and the words behind them.
+#[derive(Clone, Copy)]
+struct Line<'a> {
+    me: &'a [u8],
+    at: Option<&'a [u8]>,
+    rest: Words<'a>,
+}
+
+/// Words that are still to be read, from the left.
+#[derive(Clone, Copy)]
+struct Words<'a> {
+    words: &'a [Text],
+}
+
+/// Whether a word is a value: one that does not begin with `-`, or `-` alone.
+fn is_value(word: &[u8]) -> bool
+    ensures { result ≡ is_value word.now }
+{
+    !word.starts_with(b"-") || word == b"-".as_slice()
+}
+
+/// The value that one word gives to an option of this name, as `--name=T`.
+fn joined<'a>(name: &[u8], word: &'a [u8]) -> Option<&'a [u8]>
+    ensures { option_copied result ≡ joined name.now word.now }
+{
+    word.strip_prefix(name)?.strip_prefix(b"=".as_slice())
 }
 
 /// The moment that a word of 1 to 12 digits tells, if it is one from 1970 to 9999.
@@ -22,36 +70,189 @@ fn moment_of(word: &[u8]) -> Option<u64>
     ensures value { result ≡ moment_of word.now }
     ensures bound { IfSome result (λ moment. moment ≤ last_moment) }
 {
-    let moment = number(1, 12, word)?;
-    if moment > LAST_MOMENT {
+    number(1, 12, word).filter(|moment| *moment <= LAST_MOMENT)
+}
+
+fn are_digits(word: &[u8]) -> bool
+    ensures { result ≡ list_all is_ascii_digit word.now }
+{
+    word.iter().all(|b| b.is_ascii_digit())
+}
+
+/// The number of a trial that a word of 1 to 20 digits tells, if it is below 2^64.
+fn trial_of(word: &Text) -> Option<u64>
+    ensures { result ≡ trial_of word.now }
+{
+    let word = word.as_str();
+    if word.len() > 20 || !are_digits(word.as_bytes()) {
         return None;
     }
-    Some(moment)
+    word.parse().ok()
+}
+
+/// The moment that the word of an option tells: none where there is no option, and an outer none where it tells no moment.
+fn moment_if_given(word: Option<&[u8]>) -> Option<Option<u64>>
+    ensures value { result ≡ moment_if_given (option_copied word.entry) }
+    ensures bound { IfSome result (λ at. IfSome at (λ moment. moment ≤ last_moment)) }
+{
+    match word {
+        Some(word) => Some(Some(moment_of(word)?)),
+        None => Some(None),
+    }
+}
+
+/// The address of the one person that a word tells, if it tells one and no other.
+fn own_address(alloc: Global, word: &[u8]) -> Result<Option<Addr>, Memory>
+    ensures { IfOk result (λ read. read ≡ own_address word.now) }
+{
+    plain_address(alloc, word)
+}
+
+impl<'a> Words<'a> {
+    ghost use Rattle.std.specs.Prelude.{◌≡◌, option_map};
+    ghost use Rattle.follow.specs.Words.{value_at, option_at, line_of};
+    ghost use Rattle.follow.specs.Views.{written};
+
+    /// The value that stands first, and the words behind it.
+    fn value(self) -> Option<(&'a [u8], Words<'a>)>
+        ensures { option_map (λ p. (p.0.now, p.1.words.now)) result ≡ value_at self.entry.words.now }
+    {
+        match self.words {
+            [word, words @ ..] if is_value(word.bytes()) => Some((word.bytes(), Words { words })),
+            _ => None,
+        }
+    }
+
+    /// The value of an option of this name that stands first, as `--name=T` or as `--name V`, and the words behind it.
+    fn option(self, name: &[u8]) -> Option<(&'a [u8], Words<'a>)>
+        ensures { option_map (λ p. (p.0.now, p.1.words.now)) result ≡ option_at name.now self.entry.words.now }
+    {
+        let [word, words @ ..] = self.words else {
+            return None;
+        };
+        let rest = Words { words };
+        if word.bytes() == name {
+            return rest.value();
+        }
+        Some((joined(name, word.bytes())?, rest))
+    }
+
+    /// The options that stand first: `--me`, and `--at` on either side of it or not at all.
+    fn line(self) -> Option<Line<'a>>
+        ensures { option_map written result ≡ line_of self.entry.words.now }
+    {
+        if let Some((at, rest)) = self.option(b"--at") {
+            let (me, rest) = rest.option(b"--me")?;
+            return Some(Line {
+                me,
+                at: Some(at),
+                rest,
+            });
+        }
+        let (me, rest) = self.option(b"--me")?;
+        match rest.option(b"--at") {
+            Some((at, rest)) => Some(Line {
+                me,
+                at: Some(at),
+                rest,
+            }),
+            None => Some(Line { me, at: None, rest }),
+        }
+    }
 }
 
 impl Command {
+    ghost use Rattle.std.specs.Prelude.{◌≡◌, IfOk};
+    ghost use Rattle.follow.specs.Words.{of_name, of_value, of_info, command_of, is_list};
+
+    /// The command that is its name alone.
+    fn of_name(name: &Text) -> Option<Command>
+        ensures { result ≡ of_name name.now }
+    {
+        match name.as_str() {
+            "list" => Some(Command::List),
+            "contacts" => Some(Command::Contacts),
+            _ => None,
+        }
+    }
+
+    /// The command that is a name and a value.
+    fn of_value(name: &Text, value: &Text) -> Result<Option<Command>, Memory>
+        ensures { IfOk result (λ read. read ≡ of_value name.now value.now) }
+    {
+        Ok(match name.as_str() {
+            "chat" => Some(Command::Chat(value.copy()?)),
+            "updates" => Some(Command::Updates {
+                id: value.copy()?,
+                info: false,
+            }),
+            "trial" => trial_of(value).map(Command::Trial),
+            _ => None,
+        })
+    }
+
+    /// The command `updates` with two words behind it, of which one is `--info`.
+    fn of_info(a: &Text, b: &Text) -> Result<Option<Command>, Memory>
+        ensures { IfOk result (λ read. read ≡ of_info a.now b.now) }
+    {
+        let id = if a.as_str() == "--info" {
+            b
+        } else if b.as_str() == "--info" {
+            a
+        } else {
+            return Ok(None);
+        };
+        if !is_value(id.bytes()) {
+            return Ok(None);
+        }
+        Ok(Some(Command::Updates {
+            id: id.copy()?,
+            info: true,
+        }))
+    }
+
+    /// The command that the words are. Takes memory.
+    fn read(words: &[Text]) -> Result<Option<Command>, Memory>
+        ensures { IfOk result (λ read. read ≡ command_of words.now) }
+    {
+        match words {
+            [name] => Ok(Command::of_name(name)),
+            [name, value] if is_value(value.bytes()) => Command::of_value(name, value),
+            [name, a, b] if name.as_str() == "updates" => Command::of_info(a, b),
+            _ => Ok(None),
+        }
+    }
+
+    /// Whether this is the one command that is answered yet.
+    pub fn is_list(&self) -> bool
+        ensures { result ≡ is_list self.now }
+    {
+        matches!(self, Command::List)
+    }
+}
+
+impl Request {
     ghost use Rattle.std.specs.Prelude.{◌≡◌, ◌≤◌, IfOk, IfSome};
     ghost use Rattle.kit.specs.Moments.{last_moment};
-    ghost use Rattle.follow.specs.Words.{command};
+    ghost use Rattle.follow.specs.Words.{request};
 
-    /// The command of these words, which are exactly `--me ADDR --at N list`; none where they are not. ADDR is a plain
-    /// address, N a moment. Takes memory.
-    pub fn read(alloc: Global, words: &[Text]) -> Result<Option<Command>, Memory>
-        ensures value { IfOk result (λ read. read ≡ command words.now) }
-        ensures bound { IfOk result (λ read. IfSome read (λ c. c.at ≤ last_moment)) }
+    /// What the words of a command line ask for; none where they are not those of a command. Takes memory.
+    pub fn read(alloc: Global, words: &[Text]) -> Result<Option<Request>, Memory>
+        ensures value { IfOk result (λ read. read ≡ request words.now) }
+        ensures bound { IfOk result (λ read. IfSome read (λ r. IfSome r.at (λ at. at ≤ last_moment))) }
     {
-        let [me, address, at, moment, list] = words else {
+        let Some(line) = (Words { words }).line() else {
             return Ok(None);
         };
-        if me.as_str() != "--me" || at.as_str() != "--at" || list.as_str() != "list" {
-            return Ok(None);
-        }
-        let Some(at) = moment_of(moment.bytes()) else {
+        let Some(at) = moment_if_given(line.at) else {
             return Ok(None);
         };
-        match plain_address(alloc, address.bytes())? {
-            Some(me) => Ok(Some(Command { me, at })),
-            None => Ok(None),
-        }
+        let Some(me) = own_address(alloc, line.me)? else {
+            return Ok(None);
+        };
+        let Some(command) = Command::read(line.rest.words)? else {
+            return Ok(None);
+        };
+        Ok(Some(Request { me, at, command }))
     }
 }

@@ -5,3 +5,5 @@
 mod devices;
 #[cfg(test)]
 mod runs;
+#[cfg(test)]
+mod words;

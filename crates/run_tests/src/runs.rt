@@ -3,7 +3,7 @@ ghost use Rattle.std.specs.Prelude.{◌≡◌, ◌<◌};
 
 use follow::{Status, run};
 use kit::{Steps, Text};
-use outside::{FixedClock, MemorySink, MemorySource, NoShelf};
+use outside::{Clock, FixedClock, MemorySink, MemorySource, NoShelf};
 use std::alloc::Global;
 use std::marker::Brand;
 use std::sync::ledger::{Blank, Ledger};
@@ -13,7 +13,7 @@ const LIST: [&str; 5] = ["--me", "me@x.org", "--at", "1714564800", "list"];
 
 const LAST: [&str; 5] = ["--me", "me@x.org", "--at", "253402300799", "list"];
 
-const M1: &str =
+pub const M1: &str =
     "From -\nFrom: Bob <bob@x.org>\nTo: me@x.org\nDate: Wed, 01 May 2024 10:00:00 +0000\nMessage-ID: <m1@x.org>\nChat-Version: 1.0\n\nHi\n\n";
 
 const X1: &str =
@@ -22,19 +22,16 @@ const X1: &str =
 const X2: &str =
     "From -\nFrom: eve@x.org\nTo: me@x.org\nDate: Wed, 01 May 2024 10:06:00 +0000\nMessage-ID: <x2@x.org>\nChat-Version: 1.0\nChat-Delete: <m1@x.org>\n\nNo\n\n";
 
-const M1_LINE: &str = "single:bob@x.org | Bob | fresh 1 | 2024-05-01 10:00 | Hi\n";
-
-const USAGE: &str =
-    "chats: usage: --me ADDR [--at N] list | chat KEY | contacts | updates ID [--info] | trial N\n";
+pub const M1_LINE: &str = "single:bob@x.org | Bob | fresh 1 | 2024-05-01 10:00 | Hi\n";
 
 const READ: &str = "chats: read fault: mbox\n";
 
-const UNBUILT: &str = "chats: not built yet\n";
+pub const UNBUILT: &str = "chats: not built yet\n";
 
 /// The number of a call that there is not.
-const NEVER: u64 = 0;
+pub const NEVER: u64 = 0;
 
-fn texts(alloc: Global, words: &[&str]) -> Result<Vec<Text>, Fail> {
+pub fn texts(alloc: Global, words: &[&str]) -> Result<Vec<Text>, Fail> {
     let mut texts = Vec::new(alloc);
     for word in words {
         texts.push(Text::from(String::from_str(alloc, word)?))?;
@@ -42,16 +39,17 @@ fn texts(alloc: Global, words: &[&str]) -> Result<Vec<Text>, Fail> {
     Ok(texts)
 }
 
-fn source(alloc: Global, bytes: &str, fails: u64) -> Result<MemorySource, Fail> {
+pub fn source(alloc: Global, bytes: &str, fails: u64) -> Result<MemorySource, Fail> {
     Ok(MemorySource::new(bytes.as_bytes().to_vec(alloc)?, [fails].to_vec(alloc)?))
 }
 
-fn run_counted<L: Ledger>(
+pub fn run_counted<C: Clock, L: Ledger>(
     alloc: Global,
     blank: Blank,
     words: &[Text],
     mbox: &mut MemorySource,
     steps_file: Option<&mut MemorySource>,
+    clock: &mut C,
     out: &mut MemorySink,
 ) -> Status
     requires name { blank.name ≡ L.name }
@@ -60,14 +58,13 @@ fn run_counted<L: Ledger>(
 {
     let mut count = Steps::<L>::open(blank);
     let mut shelf = NoShelf::new();
-    let mut clock = FixedClock::new(0);
     run(
-        alloc, words, mbox, steps_file, &mut shelf, &mut clock, out, &mut count,
+        alloc, words, mbox, steps_file, &mut shelf, clock, out, &mut count,
     )
 }
 
 /// The status of a run, and what it put.
-fn ended(
+pub fn ended(
     alloc: Global,
     words: &[&str],
     mbox: &mut MemorySource,
@@ -76,12 +73,21 @@ fn ended(
 ) -> Result<(Status, String), Fail> {
     let words = texts(alloc, words)?;
     let mut out = MemorySink::new(alloc, 4096, [put_fails].to_vec(alloc)?)?;
-    let status = run_counted::<Brand>(alloc, Blank::new(1), &words, mbox, steps_file, &mut out);
+    let mut clock = FixedClock::new(0);
+    let status = run_counted::<FixedClock, Brand>(
+        alloc,
+        Blank::new(1),
+        &words,
+        mbox,
+        steps_file,
+        &mut clock,
+        &mut out,
+    );
     Ok((status, String::from_utf8_lossy(alloc, out.bytes())?))
 }
 
 /// The same without a steps file, where no device fails.
-fn told(alloc: Global, words: &[&str], mbox: &str) -> Result<(Status, String), Fail> {
+pub fn told(alloc: Global, words: &[&str], mbox: &str) -> Result<(Status, String), Fail> {
     let mut mbox = source(alloc, mbox, NEVER)?;
     ended(alloc, words, &mut mbox, None, NEVER)
 }
@@ -115,27 +121,6 @@ fn one_plain_mail_and_the_devices_that_fail(rt: HostRuntime) -> Result<(), Fail>
         let (end, text) = ended(alloc, &LIST, &mut mbox, None, put_fails)?;
         assert_eq!(rt; end, status);
         assert_eq!(rt; text.as_str(), bytes);
-    }
-    Ok(())
-}
-
-#[test]
-fn words_that_are_no_command(rt: HostRuntime) -> Result<(), Fail> {
-    let alloc = rt.alloc();
-    let words: [&[&str]; 8] = [
-        &[],
-        &["--me", "me@x.org"],
-        &["--me", "nobody", "list"],
-        &["--me", "me@x.org", "--", "list"],
-        &["--me", "me@x.org", "--at", "253402300800", "list"],
-        &["--me", "me@x.org", "--at", "0001714564800", "list"],
-        &["--me", "Me@x.org", "--at", "1714564800", "list"],
-        &["--me", "me@x.org", "--at", "1714564800", "list", "list"],
-    ];
-    for words in words {
-        let (end, text) = told(alloc, words, M1)?;
-        assert_eq!(rt; end, Status::Usage);
-        assert_eq!(rt; text.as_str(), USAGE);
     }
     Ok(())
 }

@@ -6,6 +6,6 @@ use Rattle.follow.proofs.Followed.{list-followed}
 use Rattle.follow.proofs.top.print_cards.Goals as goal
 
 pub returns : goal.returns
-returns c =
-    let rows = c.in_ok-rows.ensures.value ∙ ap list_of (c.deref.ensures.value ∙ c.in_ok-mails.ensures.value) ∙ sym (list-followed c.args.command.now c.args.cards.items) in
+returns c me =
+    let rows = c.in_ok-rows.ensures.value ∙ ap list_of (c.deref.ensures.value ∙ c.in_ok-mails.ensures.value) ∙ sym (list-followed me c.args.moment c.args.cards.items) in
     IfOk-weaker c.list_text.result _ _ (λ text is. is ∙ ap list_text (c.deref-2.ensures.value ∙ rows)) c.list_text.ensures

@@ -1,0 +1,15 @@
+-- Whether a clock was asked.
+use Rattle.std.proofs.Common.{◌≡◌, ◌⊎◌, ℕ, Bool, true, false, inl, inr, refl}
+use Rattle.follow.specs.Outcome.{AsksClock}
+
+module _ {C : Type 0} (asked : C → C → ℕ → Type 0) where
+  -- a run that ended before it came to the clock
+  pub ended_before : (needed : Bool) (clock : C) (ended : Type 0) → ended → AsksClock asked needed clock clock ended
+  ended_before false clock ended is = refl
+  ended_before true clock ended is = inr (refl, is)
+
+  -- what has become of a clock stays so, where what ended the run is told in other words
+  pub told_otherwise : (needed : Bool) (before after : C) (P Q : Type 0) → (P → Q) → AsksClock asked needed before after P → AsksClock asked needed before after Q
+  told_otherwise false before after P Q f is = is
+  told_otherwise true before after P Q f (inl once) = inl once
+  told_otherwise true before after P Q f (inr ended) = inr (ended.0, f ended.1)

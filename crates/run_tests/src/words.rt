@@ -1,0 +1,187 @@
+//! The words of a command line: which runs they start, and when the clock is asked.
+ghost use Rattle.std.specs.Prelude.{⊤, None};
+
+use crate::runs::{M1, M1_LINE, NEVER, UNBUILT, ended, run_counted, source, texts, told};
+use follow::Status;
+use kit::LAST_MOMENT;
+use outside::{Clock, MemorySink};
+use std::alloc::Global;
+use std::marker::Brand;
+use std::sync::ledger::Blank;
+use std::test::Fail;
+
+const USAGE: &str =
+    "chats: usage: --me ADDR [--at N] list | chat KEY | contacts | updates ID [--info] | trial N\n";
+
+/// Words, with a space between each two, that are no command.
+const NO_COMMANDS: [&str; 41] = [
+    "list",
+    "--help",
+    "--me",
+    "--me me@x.org",
+    "--me= list",
+    "--me nobody list",
+    "--me me@x.org,you@x.org list",
+    "--at 1714564800 list",
+    "--me me@x.org --me me@x.org list",
+    "--me=me@x.org --me me@x.org list",
+    "--me me@x.org --at 1 --at 2 list",
+    "--at 1 --me me@x.org --at=2 list",
+    "--me me@x.org list --at 1714564800",
+    "--me me@x.org --at list",
+    "--me me@x.org --at= list",
+    "--me me@x.org --at 0001714564800 list",
+    "--me me@x.org --at +1714564800 list",
+    "--me me@x.org --at -1 list",
+    "--me me@x.org --at=-1 list",
+    "--me me@x.org --at 253402300800 list",
+    "--me me@x.org -- list",
+    "-- --me me@x.org list",
+    "--me me@x.org lists",
+    "--me me@x.org List",
+    "--me me@x.org list list",
+    "--me me@x.org list --info",
+    "--me me@x.org contacts all",
+    "--me me@x.org chat",
+    "--me me@x.org chat -x",
+    "--me me@x.org chat --",
+    "--me me@x.org chat a b",
+    "--me me@x.org updates",
+    "--me me@x.org updates --info",
+    "--me me@x.org updates a b",
+    "--me me@x.org updates --info --info",
+    "--me me@x.org updates --info a --info",
+    "--me me@x.org trial",
+    "--me me@x.org trial -7",
+    "--me me@x.org trial +7",
+    "--me me@x.org trial 18446744073709551616",
+    "--me me@x.org trial 000000000000000000007",
+];
+
+/// Words of commands that are not answered yet.
+const NOT_BUILT: [&str; 9] = [
+    "--me me@x.org contacts",
+    "--me me@x.org chat single:bob@x.org",
+    "--me me@x.org chat -",
+    "--me me@x.org --at 1714564800 updates m1@x.org",
+    "--me me@x.org updates m1@x.org --info",
+    "--me me@x.org updates --info m1@x.org",
+    "--me me@x.org trial 7",
+    "--me me@x.org trial 00000000000000000007",
+    "--me me@x.org trial 18446744073709551615",
+];
+
+/// Words that list the chats at one moment.
+const LISTS: [&str; 7] = [
+    "--me me@x.org --at 1714564800 list",
+    "--at=1714564800 --me me@x.org list",
+    "--at 1714564800 --me=me@x.org list",
+    "--me=me@x.org --at=1714564800 list",
+    "--me me@x.org --at 001714564800 list",
+    "--me ME@X.org --at 1714564800 list",
+    "--me Me<me@x.org> --at 1714564800 list",
+];
+
+/// How a run of the words between the spaces ends, and what it puts.
+fn told_line(alloc: Global, line: &str) -> Result<(Status, String), Fail> {
+    let words = line.split(' ').collect::<Vec<&str>>(alloc)?;
+    told(alloc, &words, M1)
+}
+
+#[test]
+fn words_that_are_no_command(rt: HostRuntime) -> Result<(), Fail> {
+    let alloc = rt.alloc();
+    let (end, text) = told(alloc, &[], M1)?;
+    assert_eq!(rt; end, Status::Usage);
+    assert_eq!(rt; text.as_str(), USAGE);
+    for line in NO_COMMANDS {
+        let (end, text) = told_line(alloc, line)?;
+        assert_eq!(rt; end, Status::Usage, "{line}");
+        assert_eq!(rt; text.as_str(), USAGE);
+    }
+    Ok(())
+}
+
+#[test]
+fn commands_that_are_not_answered_yet(rt: HostRuntime) -> Result<(), Fail> {
+    let alloc = rt.alloc();
+    for line in NOT_BUILT {
+        let words = line.split(' ').collect::<Vec<&str>>(alloc)?;
+        // The mbox would fail if it were read.
+        let mut mbox = source(alloc, M1, 1)?;
+        let (end, text) = ended(alloc, &words, &mut mbox, None, NEVER)?;
+        assert_eq!(rt; end, Status::Unbuilt, "{line}");
+        assert_eq!(rt; text.as_str(), UNBUILT);
+    }
+    Ok(())
+}
+
+#[test]
+fn one_plain_mail_by_many_words(rt: HostRuntime) -> Result<(), Fail> {
+    let alloc = rt.alloc();
+    for line in LISTS {
+        let (end, text) = told_line(alloc, line)?;
+        assert_eq!(rt; end, Status::Ok, "{line}");
+        assert_eq!(rt; text.as_str(), M1_LINE);
+    }
+    let words = ["--me", "\"A, B\" (me) <me@x.org>", "--at", "1714564800", "list"];
+    let (end, text) = told(alloc, &words, M1)?;
+    assert_eq!(rt; end, Status::Ok);
+    assert_eq!(rt; text.as_str(), M1_LINE);
+    let (end, text) = told(alloc, &["--me", "", "list"], M1)?;
+    assert_eq!(rt; end, Status::Usage);
+    assert_eq!(rt; text.as_str(), USAGE);
+    Ok(())
+}
+
+/// A clock that counts how often it is asked.
+#[derive(Drop)]
+struct CountingClock {
+    moment: u64,
+    asked: u64,
+}
+
+impl Clock for CountingClock {
+    ghost next = { λ _. None };
+
+    ghost asked = { λ _ _ _. ⊤ };
+
+    fn now(&mut self) -> u64 {
+        self.asked = self.asked.saturating_add(1);
+        self.moment.min(LAST_MOMENT)
+    }
+}
+
+#[test]
+fn the_clock_is_asked_once_where_no_moment_is_told(rt: HostRuntime) -> Result<(), Fail> {
+    let alloc = rt.alloc();
+    // M1 arrives half an hour before its date
+    let early = "single:bob@x.org | Bob | fresh 1 | 2024-05-01 09:30 | Hi\n";
+    let cases = [
+        ("--me me@x.org list", 1, early),
+        ("--me me@x.org --at 1714564800 list", 0, M1_LINE),
+        ("--me me@x.org contacts", 0, UNBUILT),
+        ("--me nobody list", 0, USAGE),
+    ];
+    for (line, asked, put) in cases {
+        let words = texts(alloc, &line.split(' ').collect::<Vec<&str>>(alloc)?)?;
+        let mut mbox = source(alloc, M1, NEVER)?;
+        let mut clock = CountingClock {
+            moment: 1_714_555_800,
+            asked: 0,
+        };
+        let mut out = MemorySink::new(alloc, 4096, Vec::new(alloc))?;
+        let _status = run_counted::<CountingClock, Brand>(
+            alloc,
+            Blank::new(1),
+            &words,
+            &mut mbox,
+            None,
+            &mut clock,
+            &mut out,
+        );
+        assert_eq!(rt; clock.asked, asked, "{line}");
+        assert_eq!(rt; out.bytes(), put.as_bytes());
+    }
+    Ok(())
+}
