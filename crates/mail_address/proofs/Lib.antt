@@ -1,0 +1,4 @@
+pub mod TokenLemmas
+pub mod LastLemmas
+pub mod Rest
+mod Rows

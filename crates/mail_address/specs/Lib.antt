@@ -1,0 +1,4 @@
+pub mod Tokens
+pub mod People
+pub mod States
+pub mod Views
