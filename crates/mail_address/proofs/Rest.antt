@@ -1,5 +1,5 @@
 -- What the state between two tokens and the tokens behind it give, by the grammar.
-use Rattle.std.proofs.Common.{◌≡◌, ℕ, zero, suc, ◌+◌, ◌-◌, ◌≤◌, ◌<◌, Bool, true, false, not, cond, ◌&&◌, ◌||◌, List, [], ◌∷◌, ◌++◌, length, take, drop, Option, Some, None, refl, sym, ap, subst, ◌∙◌, arith, inl, inr, append_assoc}
+use Rattle.std.proofs.Common.{◌≡◌, ℕ, zero, suc, ◌+◌, Bool, true, false, not, cond, ◌&&◌, ◌||◌, List, [], ◌∷◌, ◌++◌, length, take, drop, Option, Some, None, refl, sym, ap, ◌∙◌, arith, inl, inr, append_assoc}
 use Rattle.std.specs.Prelude.{map, flat_map, filter_map, option_map, if◌then◌else◌}
 use Rattle.std.specs.List.{after_last, after_first, before_first, slice_split, onto_first, list_any, cons_option, position_or_len}
 use Rattle.std.proofs.lemmas.Bool.{cases_Bool}
@@ -13,7 +13,7 @@ use Rattle.mail_address.specs.People.{Item, Plain, Angle, items, items_behind, e
 use Rattle.mail_address.proofs.LastLemmas.{after_last-none, after_last-more, after_last-here}
 use Rattle.std.proofs.lemmas.List.Folds.{length-prefix_len}
 use Rattle.std.specs.List.{join_with_byte}
-use Rattle.mail_address.specs.States.{Atoms, State, nothing, put, address_with, start, next, ended, person_at, name_at, behind_word}
+use Rattle.mail_address.specs.States.{Atoms, State, nothing, put, address_with, start, next, ended, person_at, behind_word}
 
 -- words with a space before each
 abbrev pub spaced : List Token → List ℕ
@@ -121,7 +121,7 @@ angle_address ts =
 
 -- ---- a name
 
-named_words : (ts : List Token) → without_first (spaced ts) ≡ join_with_byte 32 (map said ts)
+pub named_words : (ts : List Token) → without_first (spaced ts) ≡ join_with_byte 32 (map said ts)
 named_words [] = refl
 named_words (t ∷ []) = append-nil (said t)
 named_words (t ∷ u ∷ ts) = ap (λ (bs : List ℕ). said t ++ (32 ∷ bs)) (named_words (u ∷ ts))
@@ -276,7 +276,7 @@ turn_later a kept Open ts = later_step (record { place = Later; address = a; nam
 turn_later a kept Colon ts = later_step (record { place = Later; address = a; name = kept }) Colon ts refl
 turn_later a kept End ts = later_step (record { place = Later; address = a; name = kept }) End ts refl
 
-turn_at : (place : Place) (a : Atoms) (kept : List ℕ) (t : Token) (ts : List Token) → Turn place a kept t ts
+pub turn_at : (place : Place) (a : Atoms) (kept : List ℕ) (t : Token) (ts : List Token) → Turn place a kept t ts
 turn_at Before a kept t ts = turn_before a kept t ts
 turn_at Inside a kept t ts = turn_inside a kept t ts
 turn_at Behind a kept t ts = turn_behind a kept t ts

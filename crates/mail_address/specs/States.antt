@@ -7,7 +7,7 @@ use Rattle.encoded_words.specs.Pieces.{decode_words}
 use Rattle.mail_address.specs.declared.element.Place.{Place}
 use Rattle.mail_address.specs.declared.element.Place.TheVariants.{Before, Inside, Behind, Later}
 use Rattle.mail_address.specs.declared.person.Person.{Person}
-use Rattle.mail_address.specs.Tokens.{Token, Atom, Quoted, Open, Close, Colon, End, without_first}
+use Rattle.mail_address.specs.Tokens.{Token, Atom, Open, Close, Colon, End, without_first}
 use Rattle.mail_address.specs.People.{said, begins_joint, ends_joint, are_joined}
 
 -- Tokens of an address that were put together: what they say, whether they are atoms that join, and whether any atom joins the

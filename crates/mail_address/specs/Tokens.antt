@@ -1,5 +1,5 @@
 -- The tokens of a body (RFC 5322, sections 3.2.1 to 3.2.4 and 3.4.1).
-use Rattle.std.specs.Prelude.{ℕ, zero, suc, ◌+◌, ◌-◌, Bool, true, false, not, ◌&&◌, ◌||◌, ◌==◌, if◌then◌else◌, List, [], ◌∷◌, length, take, drop, codes, Option, Some, None}
+use Rattle.std.specs.Prelude.{ℕ, zero, suc, ◌+◌, ◌-◌, Bool, false, not, ◌&&◌, ◌||◌, ◌==◌, if◌then◌else◌, List, [], ◌∷◌, take, codes, Option, Some, None}
 use Rattle.std.specs.List.{list_any, position_or_len, cons_option}
 use Rattle.kit.specs.White.{is_white}
 

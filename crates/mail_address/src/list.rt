@@ -1,6 +1,7 @@
 //! The people of a list.
-ghost use Rattle.std.specs.Prelude.{◌≡◌, ◌++◌, [], IfOk, OnOk};
-ghost use Rattle.std.specs.List.{cons_option};
+ghost use Rattle.std.specs.Prelude.{◌≡◌, ◌++◌, List, [], IfOk, IsTrue, OnOk, map};
+ghost use Rattle.std.specs.List.{cons_option, list_all};
+ghost use Rattle.mail_address.specs.Mailboxes.{Mailbox, is_mailbox, person_of, written};
 ghost use Rattle.mail_address.specs.People.{people};
 
 use crate::element::Element;
@@ -21,7 +22,9 @@ fn push_person(found: &mut Vec<Person>, person: Option<Person>) -> Result<(), Me
 /// The people that the body of a field names, as From, To or Cc, in their order (RFC 5322, sections 3.4 and 4.4). One that
 /// stands twice is given twice. Takes memory, and is `Err` only where there is none.
 pub fn people(alloc: Global, body: &[u8]) -> Result<Vec<Person>, Memory>
-    ensures { IfOk result (λ found. found.items ≡ people body.now) }
+    ensures value { IfOk result (λ found. found.items ≡ people body.now) }
+    ensures mailboxes { (boxes : List Mailbox) → IsTrue (list_all is_mailbox boxes) → body.now ≡ written boxes
+        → IfOk result (λ found. found.items ≡ map person_of boxes) }
 {
     let mut found = Vec::new(alloc);
     let mut element = Element::new(alloc);

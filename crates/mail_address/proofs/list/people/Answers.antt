@@ -3,6 +3,8 @@ use Rattle.std.specs.List.{cons_option}
 use Rattle.mail_address.specs.States.{next}
 use Rattle.mail_address.specs.Tokens.{tokens}
 use Rattle.mail_address.specs.Views.{seen, state}
+use Rattle.mail_address.proofs.MailboxLaw.{people-written}
+use Rattle.mail_address.specs.People.{people}
 use Rattle.mail_address.proofs.Rest.{left, left-start, left-none, turn}
 use Rattle.mail_address.proofs.list.people.Goals as goal
 
@@ -24,8 +26,8 @@ loop-token-preserved c =
     ∙ ap (λ person. (found ++ cons_option person []) ++ left (next s t) behind) c.in_ok-ended.ensures
     ∙ turn found _ s t behind (ap (λ ts. found ++ left s ts) (sym c.in-Some.ensures.0) ∙ c.loop-token.invariant)
 
-pub returns : goal.returns
-returns c =
+pub returns-clause-value : goal.returns-clause-value
+returns-clause-value c =
     let found = c.loop-token.found.items in
     let s = state c.loop-token.element in
     c.in_ok-push_person-2.ensures
@@ -33,3 +35,6 @@ returns c =
     ∙ ap (λ people. found ++ people) (sym (left-none s))
     ∙ ap (λ ts. found ++ left s ts) (sym c.in_default.ensures)
     ∙ c.loop-token.invariant
+
+pub returns-clause-mailboxes : goal.returns-clause-mailboxes
+returns-clause-mailboxes c = λ boxes all is. returns-clause-value c ∙ ap people is ∙ people-written boxes all
