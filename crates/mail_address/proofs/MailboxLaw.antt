@@ -14,7 +14,7 @@ use Rattle.mail_address.specs.declared.element.Place.TheVariants.{Before, Inside
 use Rattle.mail_address.specs.Tokens.{Token, Atom, Quoted, Open, Close, End, tokens, without_first}
 use Rattle.mail_address.specs.People.{people, said}
 use Rattle.mail_address.specs.States.{Atoms, State, nothing, put, start, person_at}
-use Rattle.mail_address.specs.Mailboxes.{Word, Bare, InQuotes, Mailbox, Alone, Named, AddrSpec, word_text, written_addr, written_box, written, is_addr_spec, is_word, is_mailbox, person_of}
+use Rattle.mail_address.specs.Mailboxes.{Word, Bare, InQuotes, Mailbox, Alone, Named, AddrSpec, word_text, written_addr, written_box, written, is_addr_spec, is_word, is_mailbox, named_person}
 use Rattle.mail_address.proofs.AddrLemmas.{written_is_addr}
 use Rattle.mail_address.proofs.MailboxTokens.{word_token, box_tokens, tokens-box}
 use Rattle.mail_address.proofs.Rest.{left, left-start, left-none, named, spaced, named_words, turn_at}
@@ -65,7 +65,7 @@ addressed : (a : AddrSpec) (name : List ℕ) → is_addr_spec a ≡ true
 addressed a name is =
     ap (λ bytes. named name (read_as is_addr (lowered bytes))) (append-nil (written_addr a)) ∙ rw (written_is_addr a is) refl
 
-box_person : (m : Mailbox) → is_mailbox m ≡ true → person_at (box_state m) ≡ Some (person_of m)
+box_person : (m : Mailbox) → is_mailbox m ≡ true → person_at (box_state m) ≡ Some (named_person m)
 box_person (Alone addr) is =
     addressed addr [] is ∙ ap (λ (name : List ℕ). Some (record { addr = lowered (written_addr addr); name = name })) nameless
 box_person (Named phrase addr) is =
@@ -78,7 +78,7 @@ end_left : (m : Mailbox) (ts : List Token) → left (box_state m) (End ∷ ts) �
 end_left (Alone addr) ts = turn_at Before (put nothing (Atom (written_addr addr))) (32 ∷ written_addr addr) End ts
 end_left (Named phrase addr) ts = turn_at Behind (put nothing (Atom (written_addr addr))) (spaced (map word_token phrase)) End ts
 
-written_left : (boxes : List Mailbox) → list_all is_mailbox boxes ≡ true → left start (tokens (written boxes)) ≡ map person_of boxes
+written_left : (boxes : List Mailbox) → list_all is_mailbox boxes ≡ true → left start (tokens (written boxes)) ≡ map named_person boxes
 written_left [] all = refl
 written_left (m ∷ []) all =
     let is = (and_parts (is_mailbox m) true all).0 in
@@ -94,7 +94,7 @@ written_left (m ∷ n ∷ ms) all =
     ∙ box_left m (End ∷ tokens rest)
     ∙ end_left m (tokens rest)
     ∙ ap (λ person. cons_option person (left start (tokens rest))) (box_person m parts.0)
-    ∙ ap (λ people. person_of m ∷ people) (written_left (n ∷ ms) parts.1)
+    ∙ ap (λ people. named_person m ∷ people) (written_left (n ∷ ms) parts.1)
 
-pub people-written : (boxes : List Mailbox) → list_all is_mailbox boxes ≡ true → people (written boxes) ≡ map person_of boxes
+pub people-written : (boxes : List Mailbox) → list_all is_mailbox boxes ≡ true → people (written boxes) ≡ map named_person boxes
 people-written boxes all = sym (left-start (written boxes)) ∙ written_left boxes all

@@ -1,5 +1,8 @@
 -- Worked rows of the definitions, which compute.
-use Rattle.std.proofs.Common.{◌≡◌, ℕ, List, [], ◌∷◌, codes, refl}
+use Rattle.std.proofs.Common.{◌≡◌, ℕ, true, List, [], ◌∷◌, codes, refl}
+use Rattle.std.specs.Prelude.{map}
+use Rattle.std.specs.List.{list_all}
+use Rattle.mail_address.specs.Mailboxes.{Mailbox, Alone, Named, Bare, InQuotes, is_mailbox, named_person, written}
 use Rattle.std.specs.Str.{is_utf8, chars}
 use Rattle.std.specs.Str.Lossy.{utf8_lossy, utf8_valid_len, utf8_error_len}
 use Rattle.mail_address.specs.declared.person.Person.{Person}
@@ -109,3 +112,21 @@ name_empty = refl
 nothing : people (codes "") ≡ []
 unfolding utf8_lossy utf8_valid_len utf8_error_len is_utf8 chars lib.Utf8.encode
 nothing = refl
+
+-- a list of mailboxes, and how it is written
+abbrev boxes : List Mailbox
+boxes =
+    Named (Bare (codes "Joe") ∷ Bare (codes "Q.") ∷ InQuotes (codes "\"Pub\", Lic") ∷ []) (record { local = codes "joe.q"; domain = codes "X.org" })
+    ∷ Alone (record { local = codes "ann"; domain = codes "x.org" })
+    ∷ Named [] (record { local = codes "cid+1"; domain = codes "x.org" }) ∷ []
+
+boxes_written : written boxes ≡ codes "Joe Q. \"\\\"Pub\\\", Lic\" <joe.q@X.org>, ann@x.org, <cid+1@x.org>"
+boxes_written = refl
+
+boxes_of_the_law : list_all is_mailbox boxes ≡ true
+boxes_of_the_law = refl
+
+boxes_name : map named_person boxes
+    ≡ person (codes "joe.q@x.org") (codes "Joe Q. \"Pub\", Lic") ∷ person (codes "ann@x.org") [] ∷ person (codes "cid+1@x.org") [] ∷ []
+unfolding utf8_lossy utf8_valid_len utf8_error_len is_utf8 chars lib.Utf8.encode
+boxes_name = refl

@@ -72,7 +72,7 @@ written (m ∷ []) = written_box m
 written (m ∷ n ∷ ms) = written_box m ++ (44 ∷ 32 ∷ written (n ∷ ms))
 
 -- whom a mailbox names: its address in small letters, and the words of its phrase, of which some may be encoded
-abbrev pub person_of : Mailbox → Person
-person_of (Alone addr) = record { addr = lowered (written_addr addr); name = [] }
-person_of (Named phrase addr) =
+abbrev pub named_person : Mailbox → Person
+named_person (Alone addr) = record { addr = lowered (written_addr addr); name = [] }
+named_person (Named phrase addr) =
     record { addr = lowered (written_addr addr); name = decode_words (join_with_byte 32 (map word_text phrase)) }

@@ -204,7 +204,7 @@ impl Element {
     {
         match token {
             Token::Atom(_) | Token::Quoted(_) => self.take_word(token)?,
-            Token::End | Token::Colon => self.clear(),
+            Token::Colon | Token::End => self.clear(),
             Token::Open => {
                 self.place = Place::Inside;
                 self.address.clear();
