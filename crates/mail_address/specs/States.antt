@@ -1,4 +1,4 @@
--- What stands between two tokens: the reader keeps no more of an element than this.
+-- What the reader keeps of an element between two tokens. Contracts of private functions speak of it, and none of a public one.
 use Rattle.std.specs.Prelude.{ℕ, Bool, true, false, ◌&&◌, ◌||◌, if◌then◌else◌, List, [], ◌∷◌, ◌++◌, flat_map, Option, None, option_map}
 use Rattle.kit.specs.Addresses.{is_addr}
 use Rattle.kit.specs.Letters.{lowered}
