@@ -1,0 +1,5 @@
+pub mod Tokens
+pub mod People
+pub mod States
+pub mod Views
+pub mod Mailboxes

@@ -1,0 +1,47 @@
+//! The people of a list.
+ghost use Rattle.std.specs.Prelude.{◌≡◌, ◌++◌, List, [], IfOk, IsTrue, OnOk, map};
+ghost use Rattle.std.specs.List.{cons_option, list_all};
+ghost use Rattle.mail_address.specs.Mailboxes.{Mailbox, is_mailbox, named_person, written};
+ghost use Rattle.mail_address.specs.People.{people};
+
+use crate::element::Element;
+use crate::person::Person;
+use crate::token::next_token;
+use kit::Memory;
+use std::alloc::Global;
+
+fn push_person(found: &mut Vec<Person>, person: Option<Person>) -> Result<(), Memory>
+    ensures { OnOk result (found.new.items ≡ found.old.items ++ cons_option person []) }
+{
+    if let Some(person) = person {
+        found.push(person)?;
+    }
+    Ok(())
+}
+
+/// The people that the body of a field names, as From, To or Cc, in their order (RFC 5322, sections 3.4 and 4.4). Takes
+/// memory, and is `Err` only where there is none.
+///
+/// A body is a list of elements that end at `,` and `;`, in groups and outside of them. A `:` drops what its element had so
+/// far: the name of a group. An element with an angle names a person by the address in its first angle, where a `:` ends a
+/// route, and by the words before it, joined by one space and read as encoded words. An element without one is an address
+/// alone, and the name is empty. In an address, white space and comments stand only beside a `.` or an `@`, and there is no
+/// quoted string. An element without an address is nobody, and a person that stands twice is given twice.
+///
+/// Of a list of mailboxes as they are written, with `, ` between each two, the people are exactly these mailboxes.
+pub fn people(alloc: Global, body: &[u8]) -> Result<Vec<Person>, Memory>
+    ensures value { IfOk result (λ found. found.items ≡ people body.now) }
+    ensures mailboxes { (boxes : List Mailbox) → IsTrue (list_all is_mailbox boxes) → body.now ≡ written boxes
+        → IfOk result (λ found. found.items ≡ map named_person boxes) }
+{
+    let mut found = Vec::new(alloc);
+    let mut element = Element::new(alloc);
+    let mut rest = body;
+    while let Some((token, behind)) = next_token(rest) {
+        push_person(&mut found, element.ended(alloc, &token)?)?;
+        element.take(&token)?;
+        rest = behind;
+    }
+    push_person(&mut found, element.person(alloc)?)?;
+    Ok(found)
+}

@@ -1,0 +1,209 @@
+//! The tokens of a body.
+ghost use Rattle.std.specs.Prelude.{◌≡◌, ◌==◌, ◌<◌, ◌≤◌, ◌^◌, false, [], ◌∷◌, IfSome, IsFalse, IsTrue, MatchOption, length, position, option_map, slice_index};
+ghost use Rattle.std.specs.List.{cons_option};
+ghost use Rattle.mail_address.specs.Tokens.{begins_pair, comment_len, depth_behind, ends_atom, mark, quoted_len, tokens, without_first};
+ghost use Rattle.mail_address.specs.Views.{seen};
+
+use kit::is_white;
+
+/// A token, borrowed from the body (RFC 5322, section 3.2).
+#[derive(Clone, Copy)]
+pub enum Token<'a> {
+    /// An atom, or a domain literal with its brackets.
+    Atom(&'a [u8]),
+    /// What stands between the quotes of a quoted string, with its backslashes.
+    Quoted(&'a [u8]),
+    /// `<`
+    Open,
+    /// `>`
+    Close,
+    /// `:`
+    Colon,
+    /// The end of an element: `,` or `;`.
+    End,
+}
+
+/// Whether the byte behind is the second of a pair.
+pub fn begins_pair(pair: bool, byte: u8) -> bool
+    ensures { result ≡ begins_pair pair byte }
+{
+    !pair && byte == b'\\'
+}
+
+/// How many comments are open behind a byte, which may be the second of a pair.
+fn depth_behind(depth: usize, pair: bool, byte: u8) -> usize
+    requires { depth < 2 ^ 63 }
+    ensures { result ≡ depth_behind depth pair byte }
+{
+    match byte {
+        b'(' if !pair => depth + 1,
+        b')' if !pair => depth.saturating_sub(1),
+        _ => depth,
+    }
+}
+
+/// How many bytes a comment takes behind its `(`.
+fn comment_len(bytes: &[u8]) -> usize
+    ensures value { result ≡ comment_len 1 false bytes.now }
+    ensures bound { result ≤ length bytes.now }
+{
+    let mut depth = 1;
+    let mut pair = false;
+    for (at, byte) in bytes.iter().enumerate() {
+        depth = depth_behind(depth, pair, *byte);
+        if depth == 0 {
+            return at + 1;
+        }
+        pair = begins_pair(pair, *byte);
+    }
+    bytes.len()
+}
+
+/// How many bytes stand before the `"` that closes a quoted string.
+fn quoted_len(bytes: &[u8]) -> usize
+    ensures value { result ≡ quoted_len false bytes.now }
+    ensures bound { result ≤ length bytes.now }
+{
+    let mut pair = false;
+    for (at, byte) in bytes.iter().enumerate() {
+        if !pair && *byte == b'"' {
+            return at;
+        }
+        pair = begins_pair(pair, *byte);
+    }
+    bytes.len()
+}
+
+/// The bytes without their first.
+pub fn without_first(bytes: &[u8]) -> &[u8]
+    ensures value { result.now ≡ without_first bytes.now }
+    ensures bound { length result.now ≤ length bytes.now }
+{
+    match bytes {
+        [_, rest @ ..] => rest,
+        [] => bytes,
+    }
+}
+
+/// What stands at the front of bytes: a token, or white space or a comment, which are none.
+#[derive(Clone, Copy)]
+struct Lexeme<'a> {
+    token: Option<Token<'a>>,
+    rest: &'a [u8],
+}
+
+fn comment(behind: &[u8]) -> Lexeme<'_>
+    ensures tokens { tokens (40 ∷ behind.now) ≡ cons_option (option_map seen result.token) (tokens result.rest.now) }
+    ensures bound { length result.rest.now ≤ length behind.now }
+{
+    Lexeme {
+        token: None,
+        rest: &behind[comment_len(behind)..],
+    }
+}
+
+fn quoted(behind: &[u8]) -> Lexeme<'_>
+    ensures tokens { tokens (34 ∷ behind.now) ≡ cons_option (option_map seen result.token) (tokens result.rest.now) }
+    ensures bound { length result.rest.now ≤ length behind.now }
+{
+    let (inside, rest) = behind.split_at(quoted_len(behind));
+    Lexeme {
+        token: Some(Token::Quoted(inside)),
+        rest: without_first(rest),
+    }
+}
+
+fn place_of_bracket(bytes: &[u8]) -> Option<usize>
+    ensures value { result ≡ position (λ b. b == 93) bytes.now }
+    ensures bound { IfSome result (λ at. at < length bytes.now) }
+{
+    bytes.iter().position(|b| *b == b']')
+}
+
+fn literal(bytes: &[u8]) -> Lexeme<'_>
+    requires { slice_index bytes.now 0 ≡ 91 }
+    ensures tokens { tokens bytes.now ≡ cons_option (option_map seen result.token) (tokens result.rest.now) }
+    ensures bound { length result.rest.now < length bytes.now }
+{
+    let end = match place_of_bracket(bytes) {
+        Some(at) => at + 1,
+        None => bytes.len(),
+    };
+    let (literal, rest) = bytes.split_at(end);
+    Lexeme {
+        token: Some(Token::Atom(literal)),
+        rest,
+    }
+}
+
+fn ends_atom(byte: u8) -> bool
+    ensures { result ≡ ends_atom byte }
+{
+    is_white(byte) || b"(\"[<>:,;".contains(&byte)
+}
+
+fn atom_end(bytes: &[u8]) -> Option<usize>
+    ensures value { result ≡ position ends_atom bytes.now }
+    ensures bound { IfSome result (λ at. at < length bytes.now) }
+{
+    bytes.iter().position(|b| ends_atom(*b))
+}
+
+fn atom(bytes: &[u8]) -> Lexeme<'_>
+    requires some { 0 < length bytes.now }
+    requires first { IsFalse (ends_atom (slice_index bytes.now 0)) }
+    ensures tokens { tokens bytes.now ≡ cons_option (option_map seen result.token) (tokens result.rest.now) }
+    ensures bound { length result.rest.now < length bytes.now }
+{
+    let (atom, rest) = bytes.split_at(atom_end(bytes).unwrap_or(bytes.len()));
+    Lexeme {
+        token: Some(Token::Atom(atom)),
+        rest,
+    }
+}
+
+/// The token that a byte is which ends an atom.
+fn mark(byte: u8) -> Option<Token<'static>>
+    ensures { option_map seen result ≡ mark byte }
+{
+    match byte {
+        b'<' => Some(Token::Open),
+        b'>' => Some(Token::Close),
+        b':' => Some(Token::Colon),
+        b',' | b';' => Some(Token::End),
+        _ => None,
+    }
+}
+
+fn first_lexeme(bytes: &[u8]) -> Option<Lexeme<'_>>
+    ensures { MatchOption result (tokens bytes.now ≡ [])
+        (λ l. (tokens bytes.now ≡ cons_option (option_map seen l.token) (tokens l.rest.now)) × (length l.rest.now < length bytes.now)) }
+{
+    let lexeme = match bytes {
+        [] => return None,
+        [b'(', behind @ ..] => comment(behind),
+        [b'"', behind @ ..] => quoted(behind),
+        [b'[', ..] => literal(bytes),
+        [first, behind @ ..] if ends_atom(*first) => Lexeme {
+            token: mark(*first),
+            rest: behind,
+        },
+        _ => atom(bytes),
+    };
+    Some(lexeme)
+}
+
+/// The first token of bytes, and what stands behind it.
+pub fn next_token(bytes: &[u8]) -> Option<(Token<'_>, &[u8])>
+    ensures { MatchOption result (tokens bytes.now ≡ [])
+        (λ p. (tokens bytes.now ≡ seen p.0 ∷ tokens p.1.now) × (length p.1.now < length bytes.now)) }
+{
+    let mut rest = bytes;
+    while let Some(lexeme) = first_lexeme(rest) {
+        rest = lexeme.rest;
+        if let Some(token) = lexeme.token {
+            return Some((token, rest));
+        }
+    }
+    None
+}
