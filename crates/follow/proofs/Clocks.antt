@@ -1,5 +1,5 @@
 -- Whether a clock was asked.
-use Rattle.std.proofs.Common.{◌≡◌, ◌⊎◌, ℕ, Bool, true, false, inl, inr, refl}
+use Rattle.std.proofs.Common.{ℕ, Bool, true, false, inl, inr, refl}
 use Rattle.follow.specs.Outcome.{AsksClock}
 
 module _ {C : Type 0} (asked : C → C → ℕ → Type 0) where

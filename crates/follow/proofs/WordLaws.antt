@@ -1,10 +1,10 @@
 -- What the grammar writes for a request reads back as that request.
-use Rattle.std.proofs.Common.{◌≡◌, ℕ, Bool, true, false, refl, ap, sym, ◌∙◌, subst, List, [], ◌∷◌, ◌++◌, Option, Some, None, append_assoc, option_map}
+use Rattle.std.proofs.Common.{◌≡◌, ℕ, Bool, true, false, refl, subst, List, ◌++◌, Option, Some, None, append_assoc}
 use Rattle.std.specs.Prelude.{codes, bytes_eq}
 use Rattle.std.proofs.lemmas.Slice.Eq.{bytes_eq-Decides}
 use Rattle.follow.specs.declared.words.Command.{Command}
 use Rattle.follow.specs.declared.words.Request.{Request}
-use Rattle.follow.specs.Grammar.{IsOption, IsMe, IsAt, AreOptions, IsCommand, IsRequest}
+use Rattle.follow.specs.Grammar.{IsOption, AreOptions, IsCommand, IsRequest}
 use Rattle.follow.specs.Grammar.IsOption.{Joined, Apart}
 use Rattle.follow.specs.Grammar.IsMe.{Me}
 use Rattle.follow.specs.Grammar.IsAt.{At}

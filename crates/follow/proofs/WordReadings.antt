@@ -2,7 +2,6 @@
 use Rattle.std.proofs.Common.{◌≡◌, ℕ, Bool, true, false, refl, ap, sym, ◌∙◌, subst, List, [], ◌∷◌, ◌++◌, Option, Some, None, append_assoc, option_map, if◌then◌else◌, drop, length}
 use Rattle.std.specs.Prelude.{codes, bytes_eq, nat_eq}
 use Rattle.std.specs.List.{starts_with}
-use Rattle.std.specs.Option.{option_and_then}
 use Rattle.std.proofs.lemmas.Bool.Decides.{Decides-eqb}
 use Rattle.std.proofs.lemmas.Option.{option_and_then_some}
 use Rattle.std.proofs.lemmas.Slice.Eq.{bytes_eq-Decides, starts_is}
@@ -10,7 +9,7 @@ use Rattle.kit.specs.Cuts.{behind}
 use Rattle.follow.specs.declared.words.Command.{Command}
 use Rattle.follow.specs.declared.words.Command.TheVariants as command
 use Rattle.follow.specs.declared.words.Request.{Request}
-use Rattle.follow.specs.Grammar.{IsOption, IsMe, IsAt, AreOptions, IsCommand, IsRequest, IsNoRequest}
+use Rattle.follow.specs.Grammar.{IsOption, AreOptions, IsCommand, IsRequest, IsNoRequest}
 use Rattle.follow.specs.Grammar.IsOption.{Joined, Apart}
 use Rattle.follow.specs.Grammar.IsMe.{Me}
 use Rattle.follow.specs.Grammar.IsAt.{At}

@@ -30,6 +30,16 @@ at_nowhere = refl
 at_behind_the_command : told (codes "list" ∷ codes "--at=0" ∷ []) ≡ None
 at_behind_the_command = refl
 
+-- the own address is that of one person and no other
+named_person : request (codes "--me" ∷ codes "\"Me, too\" (at home) <ME@X.org>" ∷ codes "list" ∷ []) ≡ asks_for None command.List
+named_person = refl
+
+two_persons : request (codes "--me" ∷ codes "me@x.org, you@x.org" ∷ codes "list" ∷ []) ≡ None
+two_persons = refl
+
+nobody : request (codes "--me" ∷ codes "nobody" ∷ codes "list" ∷ []) ≡ None
+nobody = refl
+
 -- a name twice, and a name without a value
 me_twice : told (codes "--me=me@x.org" ∷ codes "list" ∷ []) ≡ None
 me_twice = refl

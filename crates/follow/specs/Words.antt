@@ -4,11 +4,12 @@ use Rattle.std.specs.List.{starts_with}
 use Rattle.kit.specs.Cuts.{behind}
 use Rattle.kit.specs.Moments.{last_moment}
 use Rattle.kit.specs.Options.{◌>>=◌}
+use Rattle.mail_address.specs.declared.person.Person.{Person}
+use Rattle.mail_address.specs.People.{people}
 use Rattle.mail_date.specs.Digits.{number}
 use Rattle.follow.specs.declared.words.Command.{Command}
 use Rattle.follow.specs.declared.words.Command.TheVariants as command
 use Rattle.follow.specs.declared.words.Request.{Request}
-use Rattle.follow.specs.Plain.{plain_address}
 
 -- a word that does not begin with - , or - alone
 abbrev pub is_value : List ℕ → Bool
@@ -99,9 +100,13 @@ abbrev pub is_list : Command → Bool
 is_list command.List = true
 is_list _ = false
 
--- the address of the one person that a word tells
+-- the address of the person, if there is one and no other
+abbrev pub sole : List Person → Option (List ℕ)
+sole (person ∷ []) = Some person.addr
+sole _ = None
+
 abbrev pub own_address : List ℕ → Option (List ℕ)
-own_address word = plain_address word
+own_address word = sole (people word)
 
 -- what the words ask for; none where they are no command
 abbrev pub request : List (List ℕ) → Option Request

@@ -32,7 +32,7 @@ fn are_plain_bytes(bytes: &[u8]) -> bool
 
 /// The address that the bytes are, if they are one of small letters, digits, `.`, `_`, `-` and the `@` alone, else none.
 /// Takes memory.
-pub fn plain_address(alloc: Global, bytes: &[u8]) -> Result<Option<Addr>, Memory>
+fn plain_address(alloc: Global, bytes: &[u8]) -> Result<Option<Addr>, Memory>
     ensures { IfOk result (λ read. read ≡ plain_address bytes.now) }
 {
     if !are_plain_bytes(bytes) {

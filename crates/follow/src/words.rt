@@ -6,8 +6,8 @@ ghost use Rattle.std.specs.List.{list_all};
 ghost use Rattle.std.specs.Option.{option_copied};
 ghost use Rattle.follow.specs.Words.{is_value, joined, moment_of, moment_if_given, trial_of, own_address};
 
-use crate::plain::plain_address;
 use kit::{Addr, LAST_MOMENT, Memory, Text};
+use mail_address::people;
 use mail_date::number;
 use std::alloc::Global;
 
@@ -105,7 +105,11 @@ fn moment_if_given(word: Option<&[u8]>) -> Option<Option<u64>>
 fn own_address(alloc: Global, word: &[u8]) -> Result<Option<Addr>, Memory>
     ensures { IfOk result (λ read. read ≡ own_address word.now) }
 {
-    plain_address(alloc, word)
+    let mut persons = people(alloc, word)?;
+    match (persons.pop(), persons.is_empty()) {
+        (Some(person), true) => Ok(Some(person.addr)),
+        _ => Ok(None),
+    }
 }
 
 impl<'a> Words<'a> {

@@ -1,4 +1,4 @@
-use Rattle.std.proofs.Common.{◌∙◌, ap, sym, subst, ◌≤◌, ◌≡◌, length, arith, true}
+use Rattle.std.proofs.Common.{◌∙◌, ap, sym, ◌≤◌, ◌≡◌, length, arith, true}
 use Rattle.std.specs.Char.{is_ascii_digit}
 use Rattle.std.specs.List.{list_all}
 use Rattle.follow.specs.Words.{trial_of}
