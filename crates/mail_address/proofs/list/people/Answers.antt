@@ -3,7 +3,7 @@ use Rattle.std.specs.List.{cons_option}
 use Rattle.mail_address.specs.States.{next}
 use Rattle.mail_address.specs.Tokens.{tokens}
 use Rattle.mail_address.specs.Views.{seen, state}
-use Rattle.mail_address.proofs.MailboxLaw.{people-written}
+use Rattle.mail_address.proofs.WrittenLaw.{people-written}
 use Rattle.mail_address.specs.People.{people}
 use Rattle.mail_address.proofs.Rest.{left, left-start, left-none, turn}
 use Rattle.mail_address.proofs.list.people.Goals as goal
@@ -36,5 +36,5 @@ returns-clause-value c =
     ∙ ap (λ ts. found ++ left s ts) (sym c.in_default.ensures)
     ∙ c.loop-token.invariant
 
-pub returns-clause-mailboxes : goal.returns-clause-mailboxes
-returns-clause-mailboxes c = λ boxes all is. returns-clause-value c ∙ ap people is ∙ people-written boxes all
+pub returns-clause-written : goal.returns-clause-written
+returns-clause-written c = λ addresses all is. returns-clause-value c ∙ ap people is ∙ people-written addresses all
