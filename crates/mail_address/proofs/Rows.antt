@@ -17,9 +17,9 @@ phrases_and_group : people (codes "Joe Q. Public <john.q@x.org>, A Group:Ed <ed@
 unfolding utf8_lossy utf8_valid_len utf8_error_len is_utf8 chars lib.Utf8.encode
 phrases_and_group = refl
 
-at_route_nested : people (codes "<@a.org,@b.org:joe@x.org>, nobody") ≡ person (codes "joe@x.org") [] ∷ []
+route_and_nobody : people (codes "<@a.org,@b.org:joe@x.org>, nobody") ≡ person (codes "joe@x.org") [] ∷ []
 unfolding utf8_lossy utf8_valid_len utf8_error_len is_utf8 chars lib.Utf8.encode
-at_route_nested = refl
+route_and_nobody = refl
 
 comment_cuts_an_atom : people (codes "jo(x)e@x.org") ≡ []
 unfolding utf8_lossy utf8_valid_len utf8_error_len is_utf8 chars lib.Utf8.encode
