@@ -10,8 +10,8 @@ use Rattle.std.proofs.lemmas.List.Sums.{sum_by-cons, sum_by-append}
 use Rattle.std.proofs.Math.Seq.{drop-append_seam}
 use Rattle.kit.specs.Addresses.{is_addr, is_addr_byte, has_inner_at, has_inner_colons}
 use Rattle.kit.specs.Letters.{lowered}
-use Rattle.mail_address.specs.Mailboxes.{AddrSpec, is_dotted, is_addr_spec, written_addr}
-use Rattle.mail_address.proofs.MailboxTokens.{is_dot_byte, of_dot_byte}
+use Rattle.mail_address.specs.Written.{AddrSpec, is_dotted, is_addr_spec, written_addr}
+use Rattle.mail_address.proofs.WrittenTokens.{is_dot_byte, of_dot_byte}
 
 -- a byte of an address that is no `@` and no colon
 abbrev is_inner : ℕ → Bool

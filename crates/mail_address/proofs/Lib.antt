@@ -1,7 +1,7 @@
 pub mod TokenLemmas
 pub mod LastLemmas
 pub mod Rest
-pub mod MailboxTokens
+pub mod WrittenTokens
 pub mod AddrLemmas
-pub mod MailboxLaw
+pub mod WrittenLaw
 mod Rows

@@ -1,8 +1,8 @@
 -- Worked rows of the definitions, which compute.
 use Rattle.std.proofs.Common.{◌≡◌, ℕ, true, List, [], ◌∷◌, codes, refl}
-use Rattle.std.specs.Prelude.{map}
+use Rattle.std.specs.Prelude.{flat_map}
 use Rattle.std.specs.List.{list_all}
-use Rattle.mail_address.specs.Mailboxes.{Mailbox, Alone, Named, Bare, InQuotes, is_mailbox, named_person, written}
+use Rattle.mail_address.specs.Written.{Mailbox, Alone, Named, Bare, InQuotes, Address, Single, Group, is_address, named_people, written}
 use Rattle.std.specs.Str.{is_utf8, chars}
 use Rattle.std.specs.Str.Lossy.{utf8_lossy, utf8_valid_len, utf8_error_len}
 use Rattle.mail_address.specs.declared.person.Person.{Person}
@@ -17,9 +17,9 @@ phrases_and_group : people (codes "Joe Q. Public <john.q@x.org>, A Group:Ed <ed@
 unfolding utf8_lossy utf8_valid_len utf8_error_len is_utf8 chars lib.Utf8.encode
 phrases_and_group = refl
 
-at_route_nested : people (codes "<@a.org,@b.org:joe@x.org>, nobody") ≡ person (codes "joe@x.org") [] ∷ []
+route_and_nobody : people (codes "<@a.org,@b.org:joe@x.org>, nobody") ≡ person (codes "joe@x.org") [] ∷ []
 unfolding utf8_lossy utf8_valid_len utf8_error_len is_utf8 chars lib.Utf8.encode
-at_route_nested = refl
+route_and_nobody = refl
 
 comment_cuts_an_atom : people (codes "jo(x)e@x.org") ≡ []
 unfolding utf8_lossy utf8_valid_len utf8_error_len is_utf8 chars lib.Utf8.encode
@@ -113,20 +113,23 @@ nothing : people (codes "") ≡ []
 unfolding utf8_lossy utf8_valid_len utf8_error_len is_utf8 chars lib.Utf8.encode
 nothing = refl
 
--- a list of mailboxes, and how it is written
-abbrev boxes : List Mailbox
-boxes =
-    Named (Bare (codes "Joe") ∷ Bare (codes "Q.") ∷ InQuotes (codes "\"Pub\", Lic") ∷ []) (record { local = codes "joe.q"; domain = codes "X.org" })
-    ∷ Alone (record { local = codes "ann"; domain = codes "x.org" })
-    ∷ Named [] (record { local = codes "cid+1"; domain = codes "x.org" }) ∷ []
+-- a list of addresses, how it is written, and whom it names
+abbrev ann : Mailbox
+ann = Alone (record { local = codes "ann"; domain = codes "X.org" })
 
-boxes_written : written boxes ≡ codes "Joe Q. \"\\\"Pub\\\", Lic\" <joe.q@X.org>, ann@x.org, <cid+1@x.org>"
-boxes_written = refl
+abbrev addresses : List Address
+addresses =
+    Single (Named (Bare (codes "Joe") ∷ Bare (codes "Q.") ∷ InQuotes (codes "\"Pub\", Lic") ∷ []) (record { local = codes "joe.q"; domain = codes "x.org" }))
+    ∷ Group (Bare (codes "Us") ∷ []) (ann ∷ Named [] (record { local = codes "cid+1"; domain = codes "x.org" }) ∷ [])
+    ∷ Group (InQuotes (codes "a@b") ∷ []) [] ∷ Single ann ∷ []
 
-boxes_of_the_law : list_all is_mailbox boxes ≡ true
-boxes_of_the_law = refl
+addresses_written : written addresses ≡ codes "Joe Q. \"\\\"Pub\\\", Lic\" <joe.q@x.org>, Us :ann@X.org, <cid+1@x.org>;, \"a@b\" :;, ann@X.org"
+addresses_written = refl
 
-boxes_name : map named_person boxes
-    ≡ person (codes "joe.q@x.org") (codes "Joe Q. \"Pub\", Lic") ∷ person (codes "ann@x.org") [] ∷ person (codes "cid+1@x.org") [] ∷ []
+addresses_of_the_law : list_all is_address addresses ≡ true
+addresses_of_the_law = refl
+
+addresses_name : flat_map named_people addresses
+    ≡ person (codes "joe.q@x.org") (codes "Joe Q. \"Pub\", Lic") ∷ person (codes "ann@x.org") [] ∷ person (codes "cid+1@x.org") [] ∷ person (codes "ann@x.org") [] ∷ []
 unfolding utf8_lossy utf8_valid_len utf8_error_len is_utf8 chars lib.Utf8.encode
-boxes_name = refl
+addresses_name = refl

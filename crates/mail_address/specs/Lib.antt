@@ -2,4 +2,4 @@ pub mod Tokens
 pub mod People
 pub mod States
 pub mod Views
-pub mod Mailboxes
+pub mod Written

@@ -1,7 +1,7 @@
 //! The people of a list.
-ghost use Rattle.std.specs.Prelude.{◌≡◌, ◌++◌, List, [], IfOk, IsTrue, OnOk, map};
+ghost use Rattle.std.specs.Prelude.{◌≡◌, ◌++◌, List, [], IfOk, IsTrue, OnOk, flat_map};
 ghost use Rattle.std.specs.List.{cons_option, list_all};
-ghost use Rattle.mail_address.specs.Mailboxes.{Mailbox, is_mailbox, named_person, written};
+ghost use Rattle.mail_address.specs.Written.{Address, is_address, named_people, written};
 ghost use Rattle.mail_address.specs.People.{people};
 
 use crate::element::Element;
@@ -28,11 +28,12 @@ fn push_person(found: &mut Vec<Person>, person: Option<Person>) -> Result<(), Me
 /// alone, and the name is empty. In an address, white space and comments stand only beside a `.` or an `@`, and there is no
 /// quoted string. An element without an address is nobody, and a person that stands twice is given twice.
 ///
-/// Of a list of mailboxes as they are written, with `, ` between each two, the people are exactly these mailboxes.
+/// Of a list of mailboxes and groups as it is written, with `, ` between each two, the people are exactly the mailboxes and the
+/// members of the groups.
 pub fn people(alloc: Global, body: &[u8]) -> Result<Vec<Person>, Memory>
     ensures value { IfOk result (λ found. found.items ≡ people body.now) }
-    ensures mailboxes { (boxes : List Mailbox) → IsTrue (list_all is_mailbox boxes) → body.now ≡ written boxes
-        → IfOk result (λ found. found.items ≡ map named_person boxes) }
+    ensures written { (addresses : List Address) → IsTrue (list_all is_address addresses) → body.now ≡ written addresses
+        → IfOk result (λ found. found.items ≡ flat_map named_people addresses) }
 {
     let mut found = Vec::new(alloc);
     let mut element = Element::new(alloc);

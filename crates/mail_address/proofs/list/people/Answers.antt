@@ -1,9 +1,9 @@
-use Rattle.std.proofs.Common.{[], ◌++◌, sym, ap, ◌∙◌}
+use Rattle.std.proofs.Common.{◌≡◌, [], ◌++◌, sym, ap, ◌∙◌}
 use Rattle.std.specs.List.{cons_option}
-use Rattle.mail_address.specs.States.{next}
+use Rattle.mail_address.specs.States.{next, person_at}
 use Rattle.mail_address.specs.Tokens.{tokens}
 use Rattle.mail_address.specs.Views.{seen, state}
-use Rattle.mail_address.proofs.MailboxLaw.{people-written}
+use Rattle.mail_address.proofs.WrittenLaw.{people-written}
 use Rattle.mail_address.specs.People.{people}
 use Rattle.mail_address.proofs.Rest.{left, left-start, left-none, turn}
 use Rattle.mail_address.proofs.list.people.Goals as goal
@@ -30,11 +30,10 @@ pub returns-clause-value : goal.returns-clause-value
 returns-clause-value c =
     let found = c.loop-token.found.items in
     let s = state c.loop-token.element in
-    c.in_ok-push_person-2.ensures
-    ∙ ap (λ person. found ++ cons_option person []) c.in_ok-person.ensures
-    ∙ ap (λ people. found ++ people) (sym (left-none s))
-    ∙ ap (λ ts. found ++ left s ts) (sym c.in_default.ensures)
-    ∙ c.loop-token.invariant
+    let last : left s (tokens c.loop-token.rest.now) ≡ cons_option (person_at s) [] = ap (left s) c.in_default.ensures ∙ left-none s in
+    let more : c.push_person-2.new.found.items ≡ found ++ cons_option (person_at s) [] =
+    c.in_ok-push_person-2.ensures ∙ ap (λ person. found ++ cons_option person []) c.in_ok-person.ensures in
+    more ∙ ap (λ people. found ++ people) (sym last) ∙ c.loop-token.invariant
 
-pub returns-clause-mailboxes : goal.returns-clause-mailboxes
-returns-clause-mailboxes c = λ boxes all is. returns-clause-value c ∙ ap people is ∙ people-written boxes all
+pub returns-clause-written : goal.returns-clause-written
+returns-clause-written c = λ addresses all is. returns-clause-value c ∙ ap people is ∙ people-written addresses all

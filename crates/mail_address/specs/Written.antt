@@ -1,7 +1,7 @@
--- Lists of mailboxes as mails write them (RFC 5322, section 3.4).
+-- Lists of addresses as mails write them (RFC 5322, section 3.4).
 use Rattle.std.specs.Prelude.{ℕ, Bool, true, not, ◌&&◌, ◌||◌, ◌==◌, nat_le, if◌then◌else◌, List, [], ◌∷◌, ◌++◌, length, codes, map, flat_map}
 use Rattle.std.specs.Char.{is_ascii_graphic}
-use Rattle.std.specs.List.{list_all, list_any, join_with_byte}
+use Rattle.std.specs.List.{list_all, list_any, join_by, join_with_byte}
 use Rattle.kit.specs.Letters.{lowered}
 use Rattle.encoded_words.specs.Pieces.{decode_words}
 use Rattle.mail_address.specs.declared.person.Person.{Person}
@@ -65,14 +65,34 @@ abbrev pub written_box : Mailbox → List ℕ
 written_box (Alone addr) = written_addr addr
 written_box (Named phrase addr) = written_phrase phrase ++ (60 ∷ (written_addr addr ++ (62 ∷ [])))
 
--- the mailboxes, with a comma and a space between each two
-abbrev pub written : List Mailbox → List ℕ
-written [] = []
-written (m ∷ []) = written_box m
-written (m ∷ n ∷ ms) = written_box m ++ (44 ∷ 32 ∷ written (n ∷ ms))
+-- with a comma and a space between each two
+abbrev pub written_boxes : List Mailbox → List ℕ
+written_boxes boxes = join_by written_box (codes ", ") boxes
 
 -- whom a mailbox names: its address in small letters, and the words of its phrase, of which some may be encoded
 abbrev pub named_person : Mailbox → Person
 named_person (Alone addr) = record { addr = lowered (written_addr addr); name = [] }
 named_person (Named phrase addr) =
     record { addr = lowered (written_addr addr); name = decode_words (join_with_byte 32 (map word_text phrase)) }
+
+-- an address of a list: a mailbox, or a group of them, with a name
+pub data Address : Type 0 where
+  Single : (mailbox : Mailbox) → Address
+  Group : (name : List Word) (members : List Mailbox) → Address
+
+abbrev pub is_address : Address → Bool
+is_address (Single mailbox) = is_mailbox mailbox
+is_address (Group name members) = list_all is_word name && list_all is_mailbox members
+
+-- a colon (58) stands behind the name of a group, and a semicolon (59) behind its members
+abbrev pub written_address : Address → List ℕ
+written_address (Single mailbox) = written_box mailbox
+written_address (Group name members) = written_phrase name ++ (58 ∷ (written_boxes members ++ (59 ∷ [])))
+
+abbrev pub written : List Address → List ℕ
+written addresses = join_by written_address (codes ", ") addresses
+
+-- whom an address names: of a group its members
+abbrev pub named_people : Address → List Person
+named_people (Single mailbox) = named_person mailbox ∷ []
+named_people (Group name members) = map named_person members

@@ -1,11 +1,11 @@
--- The tokens of mailboxes as they are written.
+-- The tokens of phrases and mailboxes as they are written.
 use Rattle.std.proofs.Common.{◌≡◌, ℕ, ◌<◌, ◌==◌, Bool, true, false, not, ◌&&◌, ◌||◌, nat_le, List, [], ◌∷◌, ◌++◌, length, take, drop, refl, sym, ap, ◌∙◌, arith, inl, inr, append_assoc, take_at, drop_at, length-append}
 use Rattle.std.specs.Prelude.{map}
 use Rattle.std.specs.List.{list_all, position_or_len}
 use Rattle.std.proofs.lemmas.Bool.{cases_Bool, and_parts, and_from, not-true, eqb-true, or_parts, or_cases, agree_below, agree_below_at}
 use Rattle.std.specs.Char.{is_ascii_graphic}
 use Rattle.mail_address.specs.Tokens.{Token, Atom, Quoted, Open, Close, tokens, ends_atom, quoted_len, unquoted, without_first}
-use Rattle.mail_address.specs.Mailboxes.{Word, Bare, InQuotes, Mailbox, Alone, Named, is_atext, is_dotted, is_word, escaped, written_word, written_addr, written_phrase, written_box, is_addr_spec, is_mailbox, AddrSpec}
+use Rattle.mail_address.specs.Written.{Word, Bare, InQuotes, Mailbox, Alone, Named, is_atext, is_dotted, is_word, escaped, written_word, written_addr, written_phrase, written_box, is_addr_spec, is_mailbox, AddrSpec}
 use Rattle.mail_address.proofs.TokenLemmas.{tokens-atom, tokens-quoted}
 
 -- whether an atom ends before these bytes
