@@ -31,7 +31,7 @@ pub const UNBUILT: &str = "chats: not built yet\n";
 /// The number of a call that there is not.
 pub const NEVER: u64 = 0;
 
-pub fn texts(alloc: Global, words: &[&str]) -> Result<Vec<Text>, Fail> {
+fn texts(alloc: Global, words: &[&str]) -> Result<Vec<Text>, Fail> {
     let mut texts = Vec::new(alloc);
     for word in words {
         texts.push(Text::from(String::from_str(alloc, word)?))?;
@@ -43,7 +43,7 @@ pub fn source(alloc: Global, bytes: &str, fails: u64) -> Result<MemorySource, Fa
     Ok(MemorySource::new(bytes.as_bytes().to_vec(alloc)?, [fails].to_vec(alloc)?))
 }
 
-pub fn run_counted<C: Clock, L: Ledger>(
+fn run_counted<C: Clock, L: Ledger>(
     alloc: Global,
     blank: Blank,
     words: &[Text],
@@ -63,7 +63,30 @@ pub fn run_counted<C: Clock, L: Ledger>(
     )
 }
 
-/// The status of a run, and what it put.
+/// The status of a run by a clock, and what it put.
+pub fn ended_by<C: Clock>(
+    alloc: Global,
+    words: &[&str],
+    mbox: &mut MemorySource,
+    steps_file: Option<&mut MemorySource>,
+    clock: &mut C,
+    put_fails: u64,
+) -> Result<(Status, String), Fail> {
+    let words = texts(alloc, words)?;
+    let mut out = MemorySink::new(alloc, 4096, [put_fails].to_vec(alloc)?)?;
+    let status = run_counted::<C, Brand>(
+        alloc,
+        Blank::new(1),
+        &words,
+        mbox,
+        steps_file,
+        clock,
+        &mut out,
+    );
+    Ok((status, String::from_utf8_lossy(alloc, out.bytes())?))
+}
+
+/// The same by a clock that stands at 1970.
 pub fn ended(
     alloc: Global,
     words: &[&str],
@@ -71,19 +94,14 @@ pub fn ended(
     steps_file: Option<&mut MemorySource>,
     put_fails: u64,
 ) -> Result<(Status, String), Fail> {
-    let words = texts(alloc, words)?;
-    let mut out = MemorySink::new(alloc, 4096, [put_fails].to_vec(alloc)?)?;
-    let mut clock = FixedClock::new(0);
-    let status = run_counted::<FixedClock, Brand>(
+    ended_by(
         alloc,
-        Blank::new(1),
-        &words,
+        words,
         mbox,
         steps_file,
-        &mut clock,
-        &mut out,
-    );
-    Ok((status, String::from_utf8_lossy(alloc, out.bytes())?))
+        &mut FixedClock::new(0),
+        put_fails,
+    )
 }
 
 /// The same without a steps file, where no device fails.

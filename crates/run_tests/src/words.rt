@@ -1,13 +1,11 @@
 //! The words of a command line: which runs they start, and when the clock is asked.
 ghost use Rattle.std.specs.Prelude.{⊤, None};
 
-use crate::runs::{M1, M1_LINE, NEVER, UNBUILT, ended, run_counted, source, texts, told};
+use crate::runs::{M1, M1_LINE, NEVER, UNBUILT, ended, ended_by, source, told};
 use follow::Status;
 use kit::LAST_MOMENT;
-use outside::{Clock, MemorySink};
+use outside::Clock;
 use std::alloc::Global;
-use std::marker::Brand;
-use std::sync::ledger::Blank;
 use std::test::Fail;
 
 const USAGE: &str =
@@ -124,7 +122,13 @@ fn one_plain_mail_by_many_words(rt: HostRuntime) -> Result<(), Fail> {
         assert_eq!(rt; end, Status::Ok, "{line}");
         assert_eq!(rt; text.as_str(), M1_LINE);
     }
-    let words = ["--me", "\"A, B\" (me) <me@x.org>", "--at", "1714564800", "list"];
+    let words = [
+        "--me",
+        "\"A, B\" (me) <me@x.org>",
+        "--at",
+        "1714564800",
+        "list",
+    ];
     let (end, text) = told(alloc, &words, M1)?;
     assert_eq!(rt; end, Status::Ok);
     assert_eq!(rt; text.as_str(), M1_LINE);
@@ -164,24 +168,15 @@ fn the_clock_is_asked_once_where_no_moment_is_told(rt: HostRuntime) -> Result<()
         ("--me nobody list", 0, USAGE),
     ];
     for (line, asked, put) in cases {
-        let words = texts(alloc, &line.split(' ').collect::<Vec<&str>>(alloc)?)?;
+        let words = line.split(' ').collect::<Vec<&str>>(alloc)?;
         let mut mbox = source(alloc, M1, NEVER)?;
         let mut clock = CountingClock {
             moment: 1_714_555_800,
             asked: 0,
         };
-        let mut out = MemorySink::new(alloc, 4096, Vec::new(alloc))?;
-        let _status = run_counted::<CountingClock, Brand>(
-            alloc,
-            Blank::new(1),
-            &words,
-            &mut mbox,
-            None,
-            &mut clock,
-            &mut out,
-        );
+        let (_status, text) = ended_by(alloc, &words, &mut mbox, None, &mut clock, NEVER)?;
         assert_eq!(rt; clock.asked, asked, "{line}");
-        assert_eq!(rt; out.bytes(), put.as_bytes());
+        assert_eq!(rt; text.as_str(), put);
     }
     Ok(())
 }

@@ -1,4 +1,4 @@
-use Rattle.run_tests.proofs.runs.ended.Given as goal
+use Rattle.run_tests.proofs.runs.ended_by.Given as goal
 
 -- the ledger that the blank was made for
 abbrev pub ghosts-run_counted : goal.ghosts-run_counted
