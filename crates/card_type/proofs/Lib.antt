@@ -1,0 +1,7 @@
+-- Lemmas of this crate, and rows that compute.
+pub mod KeyBytes
+pub mod Maps
+pub mod OptionCases
+pub mod Orders
+pub mod Weights
+mod Rows

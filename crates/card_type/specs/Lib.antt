@@ -1,0 +1,10 @@
+pub mod Groups
+pub mod Cards
+pub mod CardParts
+pub mod Kinds
+pub mod Effects
+pub mod Keys
+pub mod Spots
+pub mod Records
+pub mod Rules
+pub mod KeyTexts

@@ -1,0 +1,61 @@
+//! A map by the keys of chats.
+ghost use Rattle.std.specs.Prelude.{◌≡◌, IfOk, OnOk, OnErr};
+ghost use Rattle.std.specs.FinMap as map;
+ghost use Rattle.std.specs.Option.{option_copied};
+ghost use Rattle.card_type.specs.Keys.{key_cmp, coded_key};
+
+use crate::key::ChatKey;
+use kit::Memory;
+use std::alloc::Global;
+use std::collections::BTreeMap;
+use std::marker::Model;
+
+/// A value for each of some chats, by key. A contract sees it as a finite map.
+#[derive(Drop)]
+pub struct KeyMap<V> {
+    values: BTreeMap<ChatKey, V>,
+}
+
+impl<V> Model for KeyMap<V> {
+    ghost Value = { map.FinMap key_cmp V };
+
+    ghost coded = { map.code coded_key V.code };
+
+    ghost view = { λ key_map. map.from_entries key_map.values.entries };
+}
+
+impl<V: Drop> KeyMap<V> {
+    /// A map without keys. Takes no memory.
+    pub fn new(alloc: Global) -> Self
+        ensures { result ≡ map.empty }
+    {
+        KeyMap {
+            values: BTreeMap::new(alloc),
+        }
+    }
+
+    /// The value of a key: `None` exactly where it has none. Takes no memory.
+    pub fn get(&self, key: &ChatKey) -> Option<&V>
+        ensures { option_copied result ≡ map.get self.now key.now }
+    {
+        self.values.get(key)
+    }
+
+    /// Gives a key a value, and hands back the value that it had. Takes memory, and is `Err` only where there
+    /// is none; then the map is as before.
+    pub fn insert(&mut self, key: ChatKey, value: V) -> Result<Option<V>, Memory>
+        ensures before { IfOk result (λ before. before ≡ map.get self.old key) }
+        ensures ok { OnOk result (self.new ≡ map.insert self.old key value) }
+        ensures err { OnErr result (self.new ≡ self.old) }
+    {
+        Ok(self.values.insert(key, value)?)
+    }
+
+    /// Takes the value of a key out of the map: `None` exactly where it has none. Takes no memory.
+    pub fn remove(&mut self, key: &ChatKey) -> Option<V>
+        ensures before { result ≡ map.get self.old key.now }
+        ensures after { self.new ≡ map.remove self.old key.now }
+    {
+        self.values.remove(key)
+    }
+}

@@ -1,0 +1,39 @@
+//! Kinds of cards.
+ghost use Rattle.std.specs.Prelude.{◌≡◌};
+ghost use Rattle.card_type.specs.Kinds.{kind_of};
+
+use crate::card::Card;
+
+/// What a mail is for. A mail that would be of several kinds is of the first of them.
+#[derive(Clone, Copy, Debug, PartialEq, Eq)]
+pub enum Kind {
+    /// It tells that a mail was read.
+    Receipt,
+    /// It takes mails back.
+    Delete,
+    /// It replaces the text of a mail.
+    Edit,
+    /// It brings updates to an app, and is none itself.
+    Update,
+    /// It is shown in a chat: any other mail.
+    Content,
+}
+
+/// The kind of a card: the first that applies of Receipt (`receipt` stands), Delete (`deletes` is not
+/// empty), Edit (`edit` stands), Update (`updates` is not empty and `app` is false) and Content. Takes
+/// no memory.
+pub fn kind_of(card: &Card) -> Kind
+    ensures { result ≡ kind_of card.now }
+{
+    if card.receipt.is_some() {
+        Kind::Receipt
+    } else if !card.deletes.is_empty() {
+        Kind::Delete
+    } else if card.edit.is_some() {
+        Kind::Edit
+    } else if !card.updates.is_empty() && !card.app {
+        Kind::Update
+    } else {
+        Kind::Content
+    }
+}

@@ -1,0 +1,5 @@
+//! Tests of the crates from cards to pages. It has no code of its own.
+#![tactic(auto)]
+
+#[cfg(test)]
+mod cards;
