@@ -1,5 +1,5 @@
 -- Content types (RFC 2045, section 5) and dispositions (RFC 2183).
-use Rattle.std.specs.Prelude.{ℕ, Bool, not, ◌&&◌, ◌==◌, if◌then◌else◌, List, [], codes, find, Option, Some, None, option_map, unwrap_or}
+use Rattle.std.specs.Prelude.{ℕ, not, ◌&&◌, ◌==◌, if◌then◌else◌, List, [], codes, find, Option, Some, None, option_map, unwrap_or}
 use Rattle.std.specs.List.{list_any}
 use Rattle.kit.specs.Cuts.{split_once}
 use Rattle.kit.specs.Letters.{lowered, same_name}

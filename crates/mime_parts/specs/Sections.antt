@@ -1,7 +1,6 @@
 -- A parameter in sections and in a charset of its own (RFC 2231, sections 3 and 4).
-use Rattle.std.specs.Prelude.{ℕ, zero, suc, ◌+◌, Bool, true, false, if◌then◌else◌, List, [], ◌∷◌, ◌++◌, flat_map, codes, decimal, Option, Some, None, option_map, unwrap_or}
+use Rattle.std.specs.Prelude.{ℕ, zero, suc, ◌+◌, Bool, true, false, ◌==◌, if◌then◌else◌, List, [], ◌∷◌, ◌++◌, length, flat_map, codes, decimal, Option, Some, None, option_map, unwrap_or}
 use Rattle.std.specs.Option.{option_or}
-use Rattle.std.specs.List.{cons_option}
 use Rattle.percent_encoding.specs.Percent.{percent_decode}
 use Rattle.kit.specs.declared.charset.Charset.{Charset}
 use Rattle.kit.specs.declared.charset.Charset.TheVariants.{Utf8}
@@ -47,8 +46,7 @@ parts values most name =
 
 -- the charset of a name; where none is told, UTF-8
 abbrev pub told_charset : List ℕ → Charset
-told_charset [] = Utf8
-told_charset (c ∷ cs) = charset_of (c ∷ cs)
+told_charset name = if length name == 0 then Utf8 else charset_of name
 
 -- the charset and the bytes of charset`'`language`'`bytes, where both `'` (39) stand
 abbrev pub told : List ℕ → Option (Charset × List ℕ)

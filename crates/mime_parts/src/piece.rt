@@ -9,10 +9,9 @@ use std::alloc::Global;
 fn quoted_behind(quoted: bool, pair: bool, byte: u8) -> bool
     ensures { result ≡ quoted_behind quoted pair byte }
 {
-    if byte == b'"' && !pair {
-        !quoted
-    } else {
-        quoted
+    match byte {
+        b'"' if !pair => !quoted,
+        _ => quoted,
     }
 }
 

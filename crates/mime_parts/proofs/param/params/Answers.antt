@@ -1,7 +1,6 @@
-use Rattle.std.proofs.Common.{◌≡◌, ◌∙◌, ap, sym, length, Some}
-use Rattle.std.specs.Prelude.{option_map}
+use Rattle.std.proofs.Common.{◌∙◌, ap, sym, length}
 use Rattle.mime_parts.specs.Sections.{param_value}
-use Rattle.mime_parts.specs.Params.{param_in, value_in}
+use Rattle.mime_parts.specs.Params.{value_in}
 use Rattle.mime_parts.proofs.NameLemmas.{param_none, param_some}
 use Rattle.mime_parts.proofs.param.params.Goals as goal
 
