@@ -15,11 +15,11 @@ use std::marker::Model;
 /// The content type of a part (RFC 2045, section 5.1), as `text/plain; charset=utf-8`.
 #[derive(Debug, Drop)]
 pub struct ContentType {
-    /// The top-level type in small letters, as `text`: one or more bytes from 33 to 126, none of them a `/`.
+    /// The top-level type in small letters, as `text`: where it was read, one or more bytes from 33 to 126, none a `/`.
     pub top: Text,
-    /// The subtype in small letters, as `plain`: such bytes as well.
+    /// The subtype in small letters, as `plain`, of such bytes as well.
     pub sub: Text,
-    /// The parameters, each name once, in the order in which the names first stand.
+    /// The parameters: where they were read, each name once, in the order in which the names first stand.
     pub params: Vec<Param>,
 }
 
@@ -34,8 +34,8 @@ impl Model for ContentType {
 impl ContentType {
     ghost use Rattle.mime_parts.specs.Kinds.{param_of};
 
-    /// The value of the parameter of a name, in which the case of ASCII letters does not count: `None` exactly where the
-    /// type has no parameter of that name. Takes no memory.
+    /// The value of the first parameter of a name, in which the case of ASCII letters does not count: `None` exactly where
+    /// the type has no parameter of that name (RFC 2045, section 5.1). Takes no memory.
     pub fn param(&self, name: &[u8]) -> Option<&Text>
         ensures { option_copied result ≡ param_of self.now name.now }
     {
@@ -80,7 +80,14 @@ fn lowered_text(alloc: Global, word: &[u8]) -> Result<Text, Memory>
     to_text(alloc, Charset::Ascii, &lowered(alloc, word)?)
 }
 
-/// The content type in the body of a field. Takes memory.
+/// What the body of a Content-Type field says, of any bytes and any length (RFC 2045, section 5). Takes memory, and is `Err`
+/// only where there is none.
+///
+/// The body is cut at each `;` outside a quoted string. Its first piece, up to white space or a `(`, is the type where it has
+/// exactly one `/` and bytes from 33 to 126 on either side; any other is text/plain (section 5.2). Each further piece with a
+/// `=` is a parameter, of which the name has no case, and the value is a quoted string or ends at a `(`. Of equal names the
+/// first counts. The value of the parameter n is that of `n*`, or of its sections `n*0` or `n*0*`, `n*1` or `n*1*` and so on
+/// up to the first that is missing, put together and read in their charset (RFC 2231), or of `n`, with encoded words read.
 pub fn read_content_type(alloc: Global, body: &[u8]) -> Result<ContentType, Memory>
     ensures { IfOk result (λ kind. kind ≡ content_type body.now) }
 {

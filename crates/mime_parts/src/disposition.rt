@@ -17,7 +17,12 @@ pub struct Disposition {
     pub name: Text,
 }
 
-/// The disposition in the body of a field. Takes memory.
+/// What the body of a Content-Disposition field says, of any bytes and any length (RFC 2183, section 2). Takes memory, and is
+/// `Err` only where there is none.
+///
+/// The body is cut into pieces as that of a Content-Type is. It says an attachment where the first piece, up to white space
+/// or a `(`, is `attachment`, without the case of letters. The file name is the value of the parameter `filename`, read as
+/// those of a content type are (RFC 2231), also where it says something else than an attachment.
 pub fn read_disposition(alloc: Global, body: &[u8]) -> Result<Disposition, Memory>
     ensures { IfOk result (λ read. read ≡ disposition body.now) }
 {

@@ -8,12 +8,12 @@ use kit::{Memory, Text};
 use std::alloc::Global;
 use std::collections::BTreeSet;
 
-/// A parameter of a field (RFC 2045, section 5.1).
+/// A parameter of a content type (RFC 2045, section 5.1).
 #[derive(Debug, Drop)]
 pub struct Param {
-    /// The name in small letters, without what RFC 2231 puts behind it.
+    /// The name in small letters and without a `*`, of any length, also empty.
     pub name: Text,
-    /// The value: its sections put together, in its charset, and with encoded words read.
+    /// The value, decoded, of any length.
     pub value: Text,
 }
 

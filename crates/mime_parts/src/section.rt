@@ -3,8 +3,8 @@ ghost use Rattle.std.specs.Prelude.{◌≡◌, ◌++◌, IfOk, OnOk, flat_map, m
 ghost use Rattle.std.specs.Option.{option_copied};
 ghost use Rattle.encoded_words.specs.Pieces.{decode_words};
 ghost use Rattle.mime_parts.specs.Pairs.{first_value};
-ghost use Rattle.mime_parts.specs.Sections.{opening, param_value, part_bytes, parts, parts_text, section, sections_from, told, told_charset};
-ghost use Rattle.mime_parts.specs.Views.{held, part};
+ghost use Rattle.mime_parts.specs.Sections.{charset_and_bytes, opening, param_value, part_bytes, parts, parts_text, section, sections_from, told_charset};
+ghost use Rattle.mime_parts.specs.Views.{held, shown};
 
 use crate::pair::Pair;
 use encoded_words::decode_words;
@@ -13,15 +13,16 @@ use percent_encoding::percent_decode;
 use std::alloc::Global;
 use std::collections::BTreeMap;
 
-/// The first value of each full name.
+/// What the parameters of a field say by their full names, as `title*1*`.
 pub type Values<'a> = BTreeMap<String, &'a [u8]>;
 
 /// Part of a value.
 #[derive(Clone, Copy)]
-struct Part<'a> {
-    /// Whether it is percent-encoded.
-    encoded: bool,
-    bytes: &'a [u8],
+enum Part<'a> {
+    /// As it stands.
+    Plain(&'a [u8]),
+    /// Percent-encoded (RFC 2231, section 4).
+    Encoded(&'a [u8]),
 }
 
 /// The first value of each full name.
@@ -51,21 +52,15 @@ fn section<'a>(
     name: &str,
     number: usize,
 ) -> Result<Option<Part<'a>>, Memory>
-    ensures { IfOk result (λ found. option_map part found ≡ section (held values.now) name.now number) }
+    ensures { IfOk result (λ found. option_map shown found ≡ section (held values.now) name.now number) }
 {
     let mut key = format!(in alloc; "{name}*{number}")?;
     if let Some(bytes) = value_named(values, key.as_str()) {
-        return Ok(Some(Part {
-            encoded: false,
-            bytes,
-        }));
+        return Ok(Some(Part::Plain(bytes)));
     }
     key.push('*')?;
     match value_named(values, key.as_str()) {
-        Some(bytes) => Ok(Some(Part {
-            encoded: true,
-            bytes,
-        })),
+        Some(bytes) => Ok(Some(Part::Encoded(bytes))),
         None => Ok(None),
     }
 }
@@ -77,7 +72,7 @@ fn sections<'a>(
     most: usize,
     name: &str,
 ) -> Result<Vec<Part<'a>>, Memory>
-    ensures { IfOk result (λ found. map part found.items ≡ sections_from (held values.now) name.now 0 most) }
+    ensures { IfOk result (λ found. map shown found.items ≡ sections_from (held values.now) name.now 0 most) }
 {
     let mut found = Vec::new(alloc);
     for number in 0..most {
@@ -96,17 +91,11 @@ fn parts<'a>(
     most: usize,
     name: &str,
 ) -> Result<Vec<Part<'a>>, Memory>
-    ensures { IfOk result (λ found. map part found.items ≡ parts (held values.now) most name.now) }
+    ensures { IfOk result (λ found. map shown found.items ≡ parts (held values.now) most name.now) }
 {
     let key = format!(in alloc; "{name}*")?;
     match value_named(values, key.as_str()) {
-        Some(bytes) => {
-            let whole = Part {
-                encoded: true,
-                bytes,
-            };
-            Ok(vec![in alloc; whole]?)
-        }
+        Some(bytes) => Ok(vec![in alloc; Part::Encoded(bytes)]?),
         None => sections(alloc, values, most, name),
     }
 }
@@ -122,8 +111,8 @@ fn told_charset(name: &[u8]) -> Charset
 }
 
 /// The charset that a value tells, and the bytes behind the language.
-fn told(value: &[u8]) -> Option<(Charset, &[u8])>
-    ensures { option_map (λ p. (p.0, p.1.now)) result ≡ told value.now }
+fn charset_and_bytes(value: &[u8]) -> Option<(Charset, &[u8])>
+    ensures { option_map (λ p. (p.0, p.1.now)) result ≡ charset_and_bytes value.now }
 {
     let (charset, rest) = split_once(value, b'\'')?;
     let (_language, bytes) = split_once(rest, b'\'')?;
@@ -132,46 +121,41 @@ fn told(value: &[u8]) -> Option<(Charset, &[u8])>
 
 /// The charset that the first part tells, and that part without it.
 fn opening<'a>(first: &Part<'a>) -> (Charset, Part<'a>)
-    ensures { (result.0, part result.1) ≡ opening (part first.now) }
+    ensures { (result.0, shown result.1) ≡ opening (shown first.now) }
 {
-    match told(first.bytes) {
-        Some((charset, bytes)) if first.encoded => (
-            charset,
-            Part {
-                encoded: true,
-                bytes,
-            },
-        ),
-        _ => (Charset::Utf8, *first),
+    if let Part::Encoded(value) = first {
+        if let Some((charset, bytes)) = charset_and_bytes(value) {
+            return (charset, Part::Encoded(bytes));
+        }
     }
+    (Charset::Utf8, *first)
 }
 
-/// Adds the bytes of a part.
-fn push_part(out: &mut Vec<u8>, piece: &Part) -> Result<(), Memory>
-    ensures { OnOk result (out.new.items ≡ out.old.items ++ part_bytes (part piece.now)) }
+/// Adds the bytes that a part stands for.
+fn push_part(out: &mut Vec<u8>, part: &Part) -> Result<(), Memory>
+    ensures { OnOk result (out.new.items ≡ out.old.items ++ part_bytes (shown part.now)) }
 {
-    if piece.encoded {
-        percent_decode(piece.bytes).append_to(out)?;
-    } else {
-        out.extend_from_slice(piece.bytes)?;
+    match part {
+        Part::Plain(bytes) => out.extend_from_slice(bytes)?,
+        Part::Encoded(bytes) => percent_decode(bytes).append_to(out)?,
     }
     Ok(())
 }
 
-fn push_parts(out: &mut Vec<u8>, pieces: &[Part]) -> Result<(), Memory>
-    ensures { OnOk result (out.new.items ≡ out.old.items ++ flat_map part_bytes (map part pieces.now)) }
+fn push_parts(out: &mut Vec<u8>, parts: &[Part]) -> Result<(), Memory>
+    ensures { OnOk result (out.new.items ≡ out.old.items ++ flat_map part_bytes (map shown parts.now)) }
 {
-    for piece in pieces {
-        push_part(out, piece)?;
+    for part in parts {
+        push_part(out, part)?;
     }
     Ok(())
 }
 
 /// The text of parts, if there are any.
-fn parts_text(alloc: Global, pieces: &[Part]) -> Result<Option<Text>, Memory>
-    ensures { IfOk result (λ text. text ≡ parts_text (map part pieces.now)) }
+fn parts_text(alloc: Global, parts: &[Part]) -> Result<Option<Text>, Memory>
+    ensures { IfOk result (λ text. text ≡ parts_text (map shown parts.now)) }
 {
-    match pieces.split_first() {
+    match parts.split_first() {
         Some((first, more)) => {
             let (charset, first) = opening(first);
             let mut bytes = Vec::new(alloc);
@@ -183,6 +167,7 @@ fn parts_text(alloc: Global, pieces: &[Part]) -> Result<Option<Text>, Memory>
     }
 }
 
+/// What the name alone says.
 fn plain_text(alloc: Global, values: &Values, name: &str) -> Result<Option<Text>, Memory>
     ensures { IfOk result (λ text. text ≡ option_map decode_words (held values.now name.now)) }
 {
@@ -192,8 +177,8 @@ fn plain_text(alloc: Global, values: &Values, name: &str) -> Result<Option<Text>
     }
 }
 
-/// The value of the parameter of a name, which has no more than `most` sections: what its sections say (RFC 2231), or else
-/// what stands for the name alone, with encoded words read.
+/// The value of the parameter of a name, which has no more than `most` sections: what its parts say (RFC 2231), or else what
+/// the name alone does, with encoded words read.
 pub fn param_value(
     alloc: Global,
     values: &Values,
@@ -202,8 +187,8 @@ pub fn param_value(
 ) -> Result<Option<Text>, Memory>
     ensures { IfOk result (λ text. text ≡ param_value (held values.now) most name.now) }
 {
-    let pieces = parts(alloc, values, most, name)?;
-    match parts_text(alloc, &pieces)? {
+    let parts = parts(alloc, values, most, name)?;
+    match parts_text(alloc, &parts)? {
         Some(text) => Ok(Some(text)),
         None => plain_text(alloc, values, name),
     }
