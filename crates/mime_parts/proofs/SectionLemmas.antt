@@ -1,9 +1,7 @@
 -- Sections, one after the other.
-use Rattle.std.proofs.Common.{◌≡◌, ℕ, suc, ◌+◌, ◌-◌, ◌<◌, ◌≤◌, List, [], ◌∷◌, ◌++◌, codes, Option, Some, None, sym, ap, ◌∙◌, arith, append_assoc}
-use Rattle.std.specs.Prelude.{decimal, option_map}
-use Rattle.std.specs.Option.{option_or}
+use Rattle.std.proofs.Common.{◌≡◌, ℕ, suc, ◌+◌, ◌-◌, ◌<◌, ◌≤◌, List, [], ◌∷◌, ◌++◌, Option, Some, None, sym, ap, ◌∙◌, arith, append_assoc}
 use Rattle.std.proofs.lemmas.List.{append-nil}
-use Rattle.mime_parts.specs.Sections.{Part, Plain, Encoded, put_section, section, sections_from}
+use Rattle.mime_parts.specs.Sections.{Part, put_section, section, sections_from}
 
 -- a section and those behind it
 sections-step : (values : List ℕ → Option (List ℕ)) (name : List ℕ) (number most : ℕ) → number < most
@@ -32,18 +30,3 @@ pub no_more : (values : List ℕ → Option (List ℕ)) (name : List ℕ) (numbe
 no_more values name number most found all end so_far =
     let zero : most - number ≡ 0 = omega arith in
     sym (append-nil found) ∙ ap (λ (n : ℕ). found ++ sections_from values name number n) (sym zero) ∙ so_far
-
--- ---- one section
-
-pub section_plain : (values : List ℕ → Option (List ℕ)) (name : List ℕ) (number : ℕ) (bytes : List ℕ)
-    → Some bytes ≡ values (name ++ (codes "*" ++ decimal number)) → Some (Plain bytes) ≡ section values name number
-section_plain values name number bytes is =
-    let starred = values (name ++ (codes "*" ++ decimal number) ++ codes "*") in
-    ap (λ (o : Option (List ℕ)). option_or (option_map Plain o) (option_map Encoded starred)) is
-
-pub section_encoded : (values : List ℕ → Option (List ℕ)) (name : List ℕ) (number : ℕ) (found : Option (List ℕ))
-    → None ≡ values (name ++ (codes "*" ++ decimal number)) → found ≡ values (name ++ (codes "*" ++ decimal number) ++ codes "*")
-    → option_map Encoded found ≡ section values name number
-section_encoded values name number found none is =
-    ap (option_map Encoded) is
-    ∙ ap (λ (o : Option (List ℕ)). option_or (option_map Plain o) (option_map Encoded (values (name ++ (codes "*" ++ decimal number) ++ codes "*")))) none
