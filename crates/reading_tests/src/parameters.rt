@@ -1,5 +1,5 @@
 //! Content types and dispositions, with their parameters.
-use kit::Memory;
+use kit::{Memory, Text};
 use mime_parts::{ContentType, read_content_type, read_disposition};
 use std::alloc::Global;
 use std::test::Fail;
@@ -61,109 +61,138 @@ const TYPES: [(&str, &str); 27] = [
     ("a/b; d=1; c*1=y; D*0=2; e=3; c*0=x", "a/b;d=2;c=xy;e=3"),
 ];
 
-/// The body of a Content-Disposition field, whether it says an attachment, and its file name.
-const DISPOSITIONS: [(&str, bool, &str); 18] = [
+/// The body of a Content-Disposition field, and what it says: `attachment;`, where it says that, and the file name.
+const DISPOSITIONS: [(&str, &str); 18] = [
     (
         "attachment; filename*=utf-8''na%C3%AFve.txt",
-        true,
-        "naïve.txt",
+        "attachment;naïve.txt",
     ),
     // The examples of RFC 2183, section 3.
-    ("inline", false, ""),
+    ("inline", ""),
     (
-        "attachment; filename=genome.jpeg; modification-date=\"Wed, 12 Feb 1997 16:29:51 -0500\"",
-        true,
-        "genome.jpeg",
+        "attachment; filename=genome.jpeg; modification-date=\"Wed, 12 Feb 1997 16:29:51 -0500\";",
+        "attachment;genome.jpeg",
     ),
-    ("", false, ""),
-    ("Attachment x; FileName=\"a b.txt\"", true, "a b.txt"),
-    ("attachment(c)", true, ""),
-    ("attachments; filename=a", false, "a"),
-    ("attachment; filename=\"\"; filename=a", true, ""),
+    ("", ""),
+    ("Attachment x; FileName=\"a b.txt\"", "attachment;a b.txt"),
+    ("attachment(c)", "attachment;"),
+    ("attachments; filename=a", "a"),
+    ("attachment; filename=\"\"; filename=a", "attachment;"),
     (
         "attachment; filename=\"=?utf-8?B?w6k=?=.txt\"",
-        true,
-        "é.txt",
+        "attachment;é.txt",
     ),
     // Charsets.
-    ("attachment; filename*=ISO-8859-1''%e9", true, "é"),
-    ("attachment; filename*=''%C3%A9", true, "é"),
-    ("attachment; filename*=x''%C3", true, "\u{FFFD}"),
-    ("attachment; filename*=latin1'%C3%A9", true, "latin1'é"),
+    ("attachment; filename*=ISO-8859-1''%e9", "attachment;é"),
+    ("attachment; filename*=''%C3%A9", "attachment;é"),
+    ("attachment; filename*=x''%C3", "attachment;\u{FFFD}"),
+    ("attachment; filename*=latin1'%C3%A9", "attachment;latin1'é"),
     (
         "attachment; filename*=latin1%27%27%E9",
-        true,
-        "latin1''\u{FFFD}",
+        "attachment;latin1''\u{FFFD}",
     ),
-    ("attachment; filename*0*=''%C3; filename*1*=%A9", true, "é"),
+    (
+        "attachment; filename*0*=''%C3; filename*1*=%A9",
+        "attachment;é",
+    ),
     (
         "attachment; filename*0=a; filename*1*=latin1''%41",
-        true,
-        "alatin1''A",
+        "attachment;alatin1''A",
     ),
-    ("attachment; filename*0*=%61; filename*0=%62", true, "%62"),
+    (
+        "attachment; filename*0*=%61; filename*0=%62",
+        "attachment;%62",
+    ),
     (
         "attachment; filename*1=b; filename*01=c; filename=d",
-        true,
-        "d",
+        "attachment;d",
     ),
 ];
 
-fn listed(alloc: Global, kind: &ContentType) -> Result<String, Memory> {
-    let mut listed = String::new(alloc);
-    listed.push_str(kind.top.as_str())?;
-    listed.push('/')?;
-    listed.push_str(kind.sub.as_str())?;
+fn push_params(listed: &mut String, kind: &ContentType) -> Result<(), Memory> {
     for param in &kind.params {
         listed.push(';')?;
         listed.push_str(param.name.as_str())?;
         listed.push('=')?;
         listed.push_str(param.value.as_str())?;
     }
+    Ok(())
+}
+
+/// What a Content-Type says.
+fn listed_type(alloc: Global, body: &str) -> Result<String, Memory> {
+    let kind = read_content_type(alloc, body.as_bytes())?;
+    let mut listed = format!(in alloc; "{}/{}", kind.top.as_str(), kind.sub.as_str())?;
+    push_params(&mut listed, &kind)?;
     Ok(listed)
+}
+
+/// What a Content-Disposition says.
+fn listed_disposition(alloc: Global, body: &str) -> Result<String, Memory> {
+    let read = read_disposition(alloc, body.as_bytes())?;
+    let mut listed = String::new(alloc);
+    if read.attach {
+        listed.push_str("attachment;")?;
+    }
+    listed.push_str(read.name.as_str())?;
+    Ok(listed)
+}
+
+fn value_of(alloc: Global, body: &str, name: &[u8]) -> Result<Option<Text>, Memory> {
+    let kind = read_content_type(alloc, body.as_bytes())?;
+    match kind.param(name) {
+        Some(value) => Ok(Some(value.copy()?)),
+        None => Ok(None),
+    }
+}
+
+/// A parameter c in 4,000 sections, the last one first, and as many parameters beside it.
+fn long_body(alloc: Global) -> Result<String, Memory> {
+    let mut body = String::from_str(alloc, "a/b")?;
+    for number in 0..4_000usize {
+        let section = 3_999 - number;
+        body.push_str(format!(in alloc; "; c*{section}=d; n{number}=e")?.as_str())?;
+    }
+    Ok(body)
 }
 
 #[test]
 fn types_and_their_parameters(rt: HostRuntime) -> Result<(), Fail> {
     let alloc = rt.alloc();
     for (body, expected) in TYPES {
-        let kind = read_content_type(alloc, body.as_bytes())?;
-        assert_eq!(rt; listed(alloc, &kind)?.as_str(), expected);
+        assert_eq!(rt; listed_type(alloc, body)?.as_str(), expected);
+    }
+    Ok(())
+}
+
+#[test]
+fn dispositions_and_their_file_names(rt: HostRuntime) -> Result<(), Fail> {
+    let alloc = rt.alloc();
+    for (body, expected) in DISPOSITIONS {
+        assert_eq!(rt; listed_disposition(alloc, body)?.as_str(), expected);
     }
     Ok(())
 }
 
 #[test]
 fn a_parameter_by_its_name(rt: HostRuntime) -> Result<(), Fail> {
-    let kind = read_content_type(rt.alloc(), b"text/plain; Format=flowed")?;
-    let format = kind.param(b"FORMAT").ok_or("no format")?;
+    let body = "text/plain; Format=flowed";
+    let format = value_of(rt.alloc(), body, b"FORMAT")?.ok_or("no format")?;
     assert_eq!(rt; format.as_str(), "flowed");
-    assert!(rt; kind.param(b"delsp").is_none());
     Ok(())
 }
 
 #[test]
-fn dispositions_and_their_file_names(rt: HostRuntime) -> Result<(), Fail> {
-    for (body, attach, name) in DISPOSITIONS {
-        let read = read_disposition(rt.alloc(), body.as_bytes())?;
-        assert_eq!(rt; read.attach, attach);
-        assert_eq!(rt; read.name.as_str(), name);
-    }
+fn a_parameter_that_is_not_there(rt: HostRuntime) -> Result<(), Fail> {
+    let body = "text/plain; Format=flowed";
+    assert!(rt; value_of(rt.alloc(), body, b"delsp")?.is_none());
     Ok(())
 }
 
-/// A parameter in as many sections as fit, the last one first, and as many other names.
 #[test]
 fn many_sections_and_names(rt: HostRuntime) -> Result<(), Fail> {
-    let alloc = rt.alloc();
-    let mut body = String::from_str(alloc, "a/b")?;
-    for number in 0..4_000usize {
-        let section = 3_999 - number;
-        body.push_str(format!(in alloc; "; c*{section}=d; n{number}=e")?.as_str())?;
-    }
-    let kind = read_content_type(alloc, body.as_bytes())?;
-    assert_eq!(rt; kind.params.len(), 4_001);
-    let whole = kind.param(b"c").ok_or("no parameter")?;
+    let body = long_body(rt.alloc())?;
+    let whole = value_of(rt.alloc(), body.as_str(), b"c")?.ok_or("no value")?;
     assert_eq!(rt; whole.bytes().len(), 4_000);
     Ok(())
 }
