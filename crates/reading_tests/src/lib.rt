@@ -10,6 +10,8 @@ mod flowed;
 #[cfg(test)]
 mod headers;
 #[cfg(test)]
+mod parameters;
+#[cfg(test)]
 mod transfer;
 #[cfg(test)]
 mod values;
