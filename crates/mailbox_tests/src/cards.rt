@@ -3,7 +3,7 @@ use card_type::{
     Card, ChatKey, Effect, GroupId, Items, KeyMap, Kind, Payload, Spot, Update, effect_of,
     is_valid, kind_of, valid_group, weight,
 };
-use kit::{Addr, Id, LAST_MOMENT, Memory, Text};
+use kit::{Addr, Id, LAST_MOMENT, Text};
 use std::alloc::Global;
 use std::test::Fail;
 
@@ -225,176 +225,170 @@ fn a_spot_and_its_copy(rt: HostRuntime) -> Result<(), Fail> {
     Ok(())
 }
 
-/// What a card does to that of Bob's mail, which is an app, where this is the own address.
-fn effect_on_m1(alloc: Global, card: &Card, me: &str) -> Result<Option<Effect>, Fail> {
+fn app(alloc: Global) -> Result<Card, Fail> {
+    let mut card = m1(alloc)?;
+    card.app = true;
+    Ok(card)
+}
+
+// Cards are kept in `Items`: each exit drops each field of a card that stands alone, which takes long to prove.
+
+/// An edit, a deletion, a receipt and an update, each of Bob's mail.
+fn actions_by(alloc: Global, from: &str) -> Result<Items<Card>, Fail> {
+    let mut cards = Items::new(alloc);
+    cards.push(edit_of_m1(alloc, from)?)?;
+    cards.push(deletion_of_m1(alloc, from)?)?;
+    cards.push(receipt_of_m1(alloc, from)?)?;
+    cards.push(update_of_m1(alloc, from)?)?;
+    Ok(cards)
+}
+
+/// What the four do to the card of Bob's mail, which is an app, where this is the own address.
+fn effects(alloc: Global, from: &str, me: &str) -> Result<Vec<Option<Effect>>, Fail> {
     let me = addr(alloc, me)?;
-    let mut app = m1(alloc)?;
-    app.app = true;
-    Ok(effect_of(card, &app, &me))
-}
-
-// A test keeps no card while it asserts: each exit would drop each field of it, which takes long to prove.
-
-fn edit_by(alloc: Global, from: &str) -> Result<Option<Effect>, Fail> {
-    let edit = edit_of_m1(alloc, from)?;
-    effect_on_m1(alloc, &edit, ME)
-}
-
-fn deletion_by(alloc: Global, from: &str) -> Result<Option<Effect>, Fail> {
-    let deletion = deletion_of_m1(alloc, from)?;
-    effect_on_m1(alloc, &deletion, ME)
-}
-
-fn receipt_by(alloc: Global, from: &str, me: &str) -> Result<Option<Effect>, Fail> {
-    let receipt = receipt_of_m1(alloc, from)?;
-    effect_on_m1(alloc, &receipt, me)
-}
-
-fn update_by(alloc: Global, from: &str) -> Result<Option<Effect>, Fail> {
-    let update = update_of_m1(alloc, from)?;
-    effect_on_m1(alloc, &update, ME)
+    let mut apps = Items::new(alloc);
+    apps.push(app(alloc)?)?;
+    let cards = actions_by(alloc, from)?;
+    let mut effects = Vec::new(alloc);
+    for card in cards.as_slice() {
+        for app in apps.as_slice() {
+            effects.push(effect_of(card, app, &me))?;
+        }
+    }
+    Ok(effects)
 }
 
 #[test]
-fn an_edit_is_by_the_sender(rt: HostRuntime) -> Result<(), Fail> {
+fn effects_are_by_sender(rt: HostRuntime) -> Result<(), Fail> {
     let alloc = rt.alloc();
-    assert_eq!(rt; edit_by(alloc, BOB)?, Some(Effect::Edit));
-    assert_eq!(rt; edit_by(alloc, EVE)?, None);
+    let edit = Some(Effect::Edit);
+    let delete = Some(Effect::Delete);
+    let read = Some(Effect::Read);
+    let update = Some(Effect::Update);
+    // who sent the four, the own address, what they do
+    let cases = [
+        (BOB, ME, [edit, delete, None, update]),
+        (ME, ME, [None, None, None, update]),
+        (EVE, ME, [None, None, None, None]),
+        (BOB, BOB, [edit, delete, None, update]),
+        (EVE, BOB, [None, None, read, None]),
+    ];
+    for (from, me, expected) in cases {
+        let found = effects(alloc, from, me)?;
+        assert_eq!(rt;
+            found.as_slice(),
+            expected.as_slice(),
+            "from {from} to {me}"
+        );
+    }
     Ok(())
-}
-
-#[test]
-fn a_deletion_is_by_the_sender(rt: HostRuntime) -> Result<(), Fail> {
-    let alloc = rt.alloc();
-    assert_eq!(rt; deletion_by(alloc, BOB)?, Some(Effect::Delete));
-    assert_eq!(rt; deletion_by(alloc, EVE)?, None);
-    Ok(())
-}
-
-#[test]
-fn a_receipt_is_by_another_of_an_own_mail(rt: HostRuntime) -> Result<(), Fail> {
-    let alloc = rt.alloc();
-    assert_eq!(rt; receipt_by(alloc, EVE, BOB)?, Some(Effect::Read));
-    assert_eq!(rt; receipt_by(alloc, BOB, BOB)?, None);
-    assert_eq!(rt; receipt_by(alloc, EVE, ME)?, None);
-    Ok(())
-}
-
-#[test]
-fn an_update_is_by_one_of_the_app(rt: HostRuntime) -> Result<(), Fail> {
-    let alloc = rt.alloc();
-    assert_eq!(rt; update_by(alloc, BOB)?, Some(Effect::Update));
-    assert_eq!(rt; update_by(alloc, ME)?, Some(Effect::Update));
-    assert_eq!(rt; update_by(alloc, EVE)?, None);
-    Ok(())
-}
-
-fn kind_of_m1(alloc: Global) -> Result<Kind, Fail> {
-    Ok(kind_of(&m1(alloc)?))
-}
-
-fn kind_of_update(alloc: Global) -> Result<Kind, Fail> {
-    Ok(kind_of(&update_of_m1(alloc, BOB)?))
 }
 
 #[test]
 fn kinds(rt: HostRuntime) -> Result<(), Fail> {
     let alloc = rt.alloc();
-    assert_eq!(rt; kind_of_m1(alloc)?, Kind::Content);
-    assert_eq!(rt; kind_of_update(alloc)?, Kind::Update);
+    let mut cards = actions_by(alloc, BOB)?;
+    cards.push(m1(alloc)?)?;
+    let found = cards
+        .as_slice()
+        .iter()
+        .map(|card| kind_of(card))
+        .collect::<Vec<Kind>>(alloc)?;
+    let expected = [
+        Kind::Edit,
+        Kind::Delete,
+        Kind::Receipt,
+        Kind::Update,
+        Kind::Content,
+    ];
+    assert_eq!(rt; found.as_slice(), expected.as_slice());
     Ok(())
-}
-
-fn weight_of_m1(alloc: Global) -> Result<u64, Fail> {
-    Ok(weight(&m1(alloc)?))
-}
-
-fn weight_of_update(alloc: Global) -> Result<u64, Fail> {
-    Ok(weight(&update_of_m1(alloc, ME)?))
 }
 
 #[test]
 fn weights(rt: HostRuntime) -> Result<(), Fail> {
     let alloc = rt.alloc();
-    assert_eq!(rt; weight_of_m1(alloc)?, 108);
-    assert_eq!(rt; weight_of_update(alloc)?, 104);
+    let mut cards = Items::new(alloc);
+    cards.push(m1(alloc)?)?;
+    cards.push(update_of_m1(alloc, ME)?)?;
+    let found = cards
+        .as_slice()
+        .iter()
+        .map(|card| weight(card))
+        .collect::<Vec<u64>>(alloc)?;
+    assert_eq!(rt; found.as_slice(), [108, 104].as_slice());
     Ok(())
-}
-
-fn copies_alike(alloc: Global) -> Result<bool, Fail> {
-    let card = m1(alloc)?;
-    match card.copy() {
-        Ok(copy) => Ok(copy == card),
-        Err(Memory) => Err(Fail::from(Memory)),
-    }
 }
 
 #[test]
 fn a_card_and_its_copy(rt: HostRuntime) -> Result<(), Fail> {
-    assert!(rt; copies_alike(rt.alloc())?);
+    let alloc = rt.alloc();
+    let mut cards = Items::new(alloc);
+    cards.push(m1(alloc)?)?;
+    let mut copies = Items::new(alloc);
+    for card in cards.as_slice() {
+        copies.push(card.copy()?)?;
+    }
+    assert!(rt; copies == cards);
     Ok(())
 }
 
-/// Whether Bob's card is valid at this date.
-fn is_valid_at(alloc: Global, date: u64) -> Result<bool, Fail> {
+/// Bob's card at this date.
+fn dated(alloc: Global, date: u64) -> Result<Card, Fail> {
     let mut card = m1(alloc)?;
     card.date = Some(date);
-    Ok(is_valid(&card))
+    Ok(card)
 }
 
-#[test]
-fn a_date_is_a_moment(rt: HostRuntime) -> Result<(), Fail> {
-    let alloc = rt.alloc();
-    assert!(rt; is_valid_at(alloc, LAST_MOMENT)?);
-    assert!(rt; !is_valid_at(alloc, LAST_MOMENT + 1)?);
-    Ok(())
-}
-
-/// Whether it is valid with these two addresses in To.
-fn is_valid_to(alloc: Global, first: &str, second: &str) -> Result<bool, Fail> {
+/// Bob's card with these two addresses in To.
+fn sent_to(alloc: Global, first: &str, second: &str) -> Result<Card, Fail> {
     let mut to = addrs(alloc, first)?;
     to.push(addr(alloc, second)?)?;
     let mut card = m1(alloc)?;
     card.to = to;
-    Ok(is_valid(&card))
+    Ok(card)
 }
 
-#[test]
-fn no_address_stands_twice(rt: HostRuntime) -> Result<(), Fail> {
-    let alloc = rt.alloc();
-    assert!(rt; is_valid_to(alloc, ME, EVE)?);
-    assert!(rt; !is_valid_to(alloc, ME, ME)?);
-    Ok(())
-}
-
-/// Whether it is valid with a text of this many bytes.
-fn is_valid_with_text(alloc: Global, length: usize) -> Result<bool, Fail> {
+/// Bob's card with a text of this many bytes.
+fn with_text(alloc: Global, length: usize) -> Result<Card, Fail> {
     let text = Text::from("x".repeat(alloc, length)?);
     let mut card = m1(alloc)?;
     card.text = text;
-    Ok(is_valid(&card))
+    Ok(card)
 }
 
-#[test]
-fn a_text_has_a_bound(rt: HostRuntime) -> Result<(), Fail> {
-    let alloc = rt.alloc();
-    assert!(rt; is_valid_with_text(alloc, 32_768)?);
-    assert!(rt; !is_valid_with_text(alloc, 32_769)?);
-    Ok(())
-}
-
-/// Whether it is valid with a subject of this many bytes, beside which it weighs 108.
-fn is_valid_with_subject(alloc: Global, length: usize) -> Result<bool, Fail> {
+/// Bob's card, made heavier by a subject of this many bytes.
+fn with_subject(alloc: Global, length: usize) -> Result<Card, Fail> {
     let subject = Text::from("x".repeat(alloc, length)?);
     let mut card = m1(alloc)?;
     card.subject = subject;
-    Ok(is_valid(&card))
+    Ok(card)
 }
 
 #[test]
-fn a_weight_has_a_bound(rt: HostRuntime) -> Result<(), Fail> {
+fn cards_at_their_bounds_are_valid(rt: HostRuntime) -> Result<(), Fail> {
     let alloc = rt.alloc();
-    assert!(rt; is_valid_with_subject(alloc, 1_048_576 - 108)?);
-    assert!(rt; !is_valid_with_subject(alloc, 1_048_577 - 108)?);
+    let mut cards = Items::new(alloc);
+    cards.push(dated(alloc, LAST_MOMENT)?)?;
+    cards.push(sent_to(alloc, ME, EVE)?)?;
+    cards.push(with_text(alloc, 32_768)?)?;
+    cards.push(with_subject(alloc, 1_048_576 - 108)?)?;
+    for card in cards.as_slice() {
+        assert!(rt; is_valid(card));
+    }
+    Ok(())
+}
+
+#[test]
+fn cards_past_their_bounds_are_not(rt: HostRuntime) -> Result<(), Fail> {
+    let alloc = rt.alloc();
+    let mut cards = Items::new(alloc);
+    cards.push(dated(alloc, LAST_MOMENT + 1)?)?;
+    cards.push(sent_to(alloc, ME, ME)?)?;
+    cards.push(with_text(alloc, 32_769)?)?;
+    cards.push(with_subject(alloc, 1_048_577 - 108)?)?;
+    for card in cards.as_slice() {
+        assert!(rt; !is_valid(card));
+    }
     Ok(())
 }
