@@ -1,9 +1,10 @@
 -- The rules that a card keeps, which are those of its record: each value reads as what it is said to be, numbers fit their
 -- places, and the record is not too long.
-use Rattle.std.specs.Prelude.{ℕ, ◌^◌, Bool, true, not, ◌&&◌, nat_lt, nat_le, List, [], ◌∷◌, length, Option, Some, None}
-use Rattle.std.specs.List.{list_all, list_any}
-use Rattle.std.specs.Str.{bytes_eq, is_utf8}
+use Rattle.std.specs.Prelude.{◌^◌, Bool, true, ◌&&◌, nat_lt, nat_le, length, Option, Some, None}
+use Rattle.std.specs.List.{list_all}
+use Rattle.std.specs.Str.{is_utf8}
 use Rattle.kit.specs.Addresses.{is_addr}
+use Rattle.kit.specs.Distinct.{are_distinct}
 use Rattle.kit.specs.Ids.{is_id}
 use Rattle.kit.specs.Moments.{last_moment}
 use Rattle.card_type.specs.declared.card.Attachment.{Attachment}
@@ -18,11 +19,6 @@ use Rattle.card_type.specs.Records.{weight}
 abbrev pub where_some : {T : Type 0} → (T → Bool) → Option T → Bool
 where_some rule None = true
 where_some rule (Some x) = rule x
-
--- no two are alike
-abbrev pub are_distinct : List (List ℕ) → Bool
-are_distinct [] = true
-are_distinct (x ∷ xs) = not (list_any (bytes_eq x) xs) && are_distinct xs
 
 abbrev pub is_attachment : Attachment → Bool
 is_attachment a = is_utf8 a.kind && is_utf8 a.name && nat_lt a.size (2 ^ 64)

@@ -3,9 +3,10 @@ ghost use Rattle.std.specs.Prelude.{◌≡◌, ℕ, List, Bool};
 ghost use Rattle.std.specs.List.{list_all};
 ghost use Rattle.std.specs.Str.{is_utf8};
 ghost use Rattle.kit.specs.Addresses.{is_addr};
+ghost use Rattle.kit.specs.Distinct.{are_distinct};
 ghost use Rattle.kit.specs.Ids.{is_id};
 ghost use Rattle.card_type.specs.Groups.{is_group};
-ghost use Rattle.card_type.specs.Rules.{where_some, are_distinct, is_attachment, is_payload, is_update, has_ids, has_people, has_texts, has_numbers, is_light, is_valid};
+ghost use Rattle.card_type.specs.Rules.{where_some, is_attachment, is_payload, is_update, has_ids, has_people, has_texts, has_numbers, is_light, is_valid};
 
 use crate::card::{Attachment, Card, Payload, Update};
 use crate::group_id::GroupId;

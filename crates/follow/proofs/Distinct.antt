@@ -11,7 +11,7 @@ use Rattle.std.proofs.lemmas.Bool.Decides.{nat_tests}
 use Rattle.std.proofs.lemmas.List.{take_more, take-append-drop, map-append}
 use Rattle.std.proofs.lemmas.List.Folds.{list_any-append}
 use Rattle.follow.specs.declared.card.Card.{Card}
-use Rattle.follow.specs.Plain.{are_distinct}
+use Rattle.kit.specs.Distinct.{are_distinct}
 
 bytes_eq-swap : (x y : List ℕ) → bytes_eq x y ≡ bytes_eq y x
 bytes_eq-swap x y = nat_list_eq_equiv.symm x y

@@ -1,10 +1,11 @@
 -- A plain mbox: mails of nine lines each, one after the other.
-use Rattle.std.specs.Prelude.{ℕ, ◌-◌, Bool, true, false, ◌&&◌, ◌||◌, not, nat_le, nat_lt, nat_eq, ◌==◌, if◌then◌else◌, bytes_eq, codes, List, [], ◌∷◌, length, take, drop, map, Option, Some, None, option_map}
+use Rattle.std.specs.Prelude.{ℕ, ◌-◌, Bool, false, ◌&&◌, ◌||◌, not, nat_le, nat_lt, nat_eq, ◌==◌, if◌then◌else◌, bytes_eq, codes, List, [], ◌∷◌, length, take, drop, map, Option, Some, None, option_map}
 use Rattle.std.specs.Option.{option_or}
 use Rattle.std.specs.List.{list_all, list_any, slice_split, starts_with, ends_with}
 use Rattle.std.specs.Char.{is_ascii_digit, is_ascii_lowercase, is_ascii_alphanumeric}
 use Rattle.kit.specs.Addresses.{is_addr}
 use Rattle.kit.specs.Cuts.{behind, split_once}
+use Rattle.kit.specs.Distinct.{are_distinct}
 use Rattle.kit.specs.Lines.{raw_lines}
 use Rattle.kit.specs.Reading.{read_as}
 use Rattle.kit.specs.Options.{◌>>=◌}
@@ -112,11 +113,6 @@ cards_of me (separator ∷ from ∷ to ∷ date ∷ id ∷ version ∷ gap ∷ t
     option_map (λ p. p.0 ∷ p.1)
     (both (card_of me (separator ∷ from ∷ to ∷ date ∷ id ∷ version ∷ gap ∷ text ∷ end ∷ [])) (cards_of me lines))
 cards_of me _ = None
-
--- no two are alike
-abbrev pub are_distinct : List (List ℕ) → Bool
-are_distinct [] = true
-are_distinct (x ∷ xs) = not (list_any (bytes_eq x) xs) && are_distinct xs
 
 abbrev pub of_one_id_each : List Card → Option (List Card)
 of_one_id_each cards = if are_distinct (map (λ card. card.id) cards) then Some cards else None

@@ -5,8 +5,9 @@ ghost use Rattle.std.specs.Prelude.{◌≡◌, ◌<◌, ◌≤◌, ◌==◌, IfO
 ghost use Rattle.std.specs.Char.{is_ascii_alphanumeric};
 ghost use Rattle.std.specs.List.{list_all};
 ghost use Rattle.std.specs.Option.{option_copied};
+ghost use Rattle.kit.specs.Distinct.{are_distinct};
 ghost use Rattle.kit.specs.Lines.{raw_lines};
-ghost use Rattle.follow.specs.Plain.{is_plain_byte, plain_address, before, between, is_plain_word, is_plain_name, name_and_address, is_trimmed, is_unquoted, is_plain_text, read_date, read_id, read_text, is_to, is_frame, read_card, card_of, cards_of, are_distinct, plain_cards, longest};
+ghost use Rattle.follow.specs.Plain.{is_plain_byte, plain_address, before, between, is_plain_word, is_plain_name, name_and_address, is_trimmed, is_unquoted, is_plain_text, read_date, read_id, read_text, is_to, is_frame, read_card, card_of, cards_of, plain_cards, longest};
 
 use crate::card::Card;
 use crate::dates::plain_moment;

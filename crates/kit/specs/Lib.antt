@@ -8,4 +8,6 @@ pub mod Charsets
 pub mod White
 pub mod Printing
 pub mod Cuts
+pub mod Comments
+pub mod Distinct
 pub mod Moments

@@ -1,11 +1,12 @@
 //! What every other crate stands on: want of memory, bytes that own their memory, texts, message ids,
-//! mail addresses, charsets, lines, white space and printing bytes, and a count of steps. A contract sees bytes, a text,
+//! mail addresses, charsets, lines, white space, comments and printing bytes, and a count of steps. A contract sees bytes, a text,
 //! an id and an address as its list of bytes.
 #![tactic(auto)]
 
 mod addr;
 mod bytes;
 mod charset;
+mod comment;
 mod cut;
 mod id;
 mod letters;
@@ -20,6 +21,7 @@ mod white;
 pub use addr::Addr;
 pub use bytes::Bytes;
 pub use charset::{Charset, charset_of, to_text};
+pub use comment::{begins_pair, depth_behind};
 pub use cut::split_once;
 pub use id::Id;
 pub use letters::{lower, same_name};

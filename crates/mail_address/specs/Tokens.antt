@@ -1,6 +1,7 @@
 -- The tokens of a body (RFC 5322, sections 3.2.1 to 3.2.4 and 3.4.1).
-use Rattle.std.specs.Prelude.{ℕ, zero, suc, ◌+◌, ◌-◌, Bool, false, not, ◌&&◌, ◌||◌, ◌==◌, if◌then◌else◌, List, [], ◌∷◌, take, codes, Option, Some, None}
+use Rattle.std.specs.Prelude.{ℕ, zero, suc, ◌+◌, Bool, false, not, ◌&&◌, ◌||◌, ◌==◌, if◌then◌else◌, List, [], ◌∷◌, take, codes, Option, Some, None}
 use Rattle.std.specs.List.{list_any, position_or_len, cons_option}
+use Rattle.kit.specs.Comments.{begins_pair, depth_behind}
 use Rattle.kit.specs.White.{is_white}
 
 pub data Token : Type 0 where
@@ -10,16 +11,6 @@ pub data Token : Type 0 where
   Close : Token  -- >
   Colon : Token
   End : Token  -- the end of an element: a comma or a semicolon
-
--- whether the byte behind this one is the second of a pair: behind a backslash (92) it is, unless that is a second one itself
-abbrev pub begins_pair : Bool → ℕ → Bool
-begins_pair pair b = not pair && b == 92
-
--- How many comments are open behind a byte, if so many are open before it: `(` (40) opens one and `)` (41) closes one,
--- unless the flag says that the byte is the second of a pair.
-abbrev pub depth_behind : ℕ → Bool → ℕ → ℕ
-depth_behind depth pair b =
-    if pair then depth else if b == 40 then depth + 1 else if b == 41 then depth - 1 else depth
 
 -- how many bytes comments take that are open, so many in each other: all, if they are not closed
 abbrev pub comment_len : ℕ → Bool → List ℕ → ℕ

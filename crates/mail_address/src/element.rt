@@ -7,9 +7,9 @@ ghost use Rattle.mail_address.specs.Tokens.{unquoted};
 ghost use Rattle.mail_address.specs.Views.{atoms, seen, state};
 
 use crate::person::Person;
-use crate::token::{Token, begins_pair, without_first};
+use crate::token::{Token, without_first};
 use encoded_words::decode_words;
-use kit::{Addr, Memory};
+use kit::{Addr, Memory, begins_pair};
 use std::alloc::Global;
 
 /// Whether a word that begins or ends with this byte may stand beside another in an address.

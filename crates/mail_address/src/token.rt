@@ -1,10 +1,10 @@
 //! The tokens of a body.
 ghost use Rattle.std.specs.Prelude.{◌≡◌, ◌==◌, ◌<◌, ◌≤◌, ◌^◌, false, [], ◌∷◌, IfSome, IsFalse, IsTrue, MatchOption, length, position, option_map, slice_index};
 ghost use Rattle.std.specs.List.{cons_option};
-ghost use Rattle.mail_address.specs.Tokens.{begins_pair, comment_len, depth_behind, ends_atom, mark, quoted_len, tokens, without_first};
+ghost use Rattle.mail_address.specs.Tokens.{comment_len, ends_atom, mark, quoted_len, tokens, without_first};
 ghost use Rattle.mail_address.specs.Views.{seen};
 
-use kit::is_white;
+use kit::{begins_pair, depth_behind, is_white};
 
 /// A token, borrowed from the body (RFC 5322, section 3.2).
 #[derive(Clone, Copy)]
@@ -21,25 +21,6 @@ pub enum Token<'a> {
     Colon,
     /// The end of an element: `,` or `;`.
     End,
-}
-
-/// Whether the byte behind is the second of a pair.
-pub fn begins_pair(pair: bool, byte: u8) -> bool
-    ensures { result ≡ begins_pair pair byte }
-{
-    !pair && byte == b'\\'
-}
-
-/// How many comments are open behind a byte, which may be the second of a pair.
-fn depth_behind(depth: usize, pair: bool, byte: u8) -> usize
-    requires { depth < 2 ^ 63 }
-    ensures { result ≡ depth_behind depth pair byte }
-{
-    match byte {
-        b'(' if !pair => depth + 1,
-        b')' if !pair => depth.saturating_sub(1),
-        _ => depth,
-    }
 }
 
 /// How many bytes a comment takes behind its `(`.

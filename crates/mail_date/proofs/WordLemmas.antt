@@ -5,7 +5,8 @@ use Rattle.std.proofs.lemmas.List.Splits.{slice_split-cons_yes, slice_split-cons
 use Rattle.std.proofs.lemmas.Bool.{cases_Bool, ltb-false}
 use Rattle.std.proofs.lemmas.List.Sums.{prefix_len-le-length}
 use Rattle.std.specs.Option.{unwrap_or}
-use Rattle.mail_date.specs.Words.{without_comments, depth_behind, pair_behind, ends_word, is_separator, words}
+use Rattle.kit.specs.Comments.{depth_behind}
+use Rattle.mail_date.specs.Words.{without_comments, pair_behind, ends_word, is_separator, words}
 
 abbrev is_piece : List ℕ → Bool
 is_piece piece = nat_lt 0 (length piece)

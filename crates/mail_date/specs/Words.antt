@@ -1,16 +1,11 @@
 -- The words of a body, between white space, comments and commas.
-use Rattle.std.specs.Prelude.{ℕ, ◌+◌, ◌-◌, Bool, false, not, ◌&&◌, ◌||◌, ◌==◌, nat_lt, if◌then◌else◌, List, [], ◌∷◌, length, filter}
+use Rattle.std.specs.Prelude.{ℕ, Bool, false, not, ◌&&◌, ◌||◌, ◌==◌, nat_lt, if◌then◌else◌, List, [], ◌∷◌, length, filter}
 use Rattle.std.specs.List.{slice_split}
+use Rattle.kit.specs.Comments.{begins_pair, depth_behind}
 
--- How many comments are open behind a byte, if so many are open before it: `(` (40) opens one and `)` (41) closes one,
--- unless the flag says that the byte is the second of a pair.
-abbrev pub depth_behind : ℕ → Bool → ℕ → ℕ
-depth_behind depth pair b =
-    if pair then depth else if b == 40 then depth + 1 else if b == 41 then depth - 1 else depth
-
--- whether the next byte is the second of a pair: behind a backslash (92) in a comment it is, unless that is a second one itself
+-- whether the next byte is the second of a pair, which stands in a comment alone
 abbrev pub pair_behind : ℕ → Bool → ℕ → Bool
-pair_behind depth pair b = nat_lt 0 depth && not pair && (b == 92)
+pair_behind depth pair b = nat_lt 0 depth && begins_pair pair b
 
 -- the bytes with a space (32) for each byte of a comment, if so many comments are open before them
 abbrev pub without_comments : ℕ → Bool → List ℕ → List ℕ

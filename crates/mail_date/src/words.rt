@@ -1,8 +1,9 @@
 //! The words of a body.
 ghost use Rattle.std.specs.Prelude.{◌≡◌, ◌<◌, ◌^◌, [], ◌∷◌, IfSome, IsFalse, MatchOption, length, position, slice_index};
-ghost use Rattle.mail_date.specs.Words.{depth_behind, ends_word, is_separator, pair_behind, words};
+ghost use Rattle.mail_date.specs.Words.{ends_word, is_separator, pair_behind, words};
 
 use crate::names::{WEEKDAYS, place_in};
+use kit::{begins_pair, depth_behind};
 
 fn is_separator(byte: u8) -> bool
     ensures { result ≡ is_separator byte }
@@ -16,23 +17,11 @@ fn ends_word(byte: u8) -> bool
     is_separator(byte) || byte == b'('
 }
 
-/// How many comments are open behind a byte, which may be the second of a pair.
-fn depth_behind(depth: usize, pair: bool, byte: u8) -> usize
-    requires { depth < 2 ^ 63 }
-    ensures { result ≡ depth_behind depth pair byte }
-{
-    match byte {
-        b'(' if !pair => depth + 1,
-        b')' if !pair => depth.saturating_sub(1),
-        _ => depth,
-    }
-}
-
-/// Whether the byte behind is the second of a pair: behind a backslash in a comment it is.
+/// Whether the byte behind is the second of a pair, which stands in a comment alone.
 fn pair_behind(depth: usize, pair: bool, byte: u8) -> bool
     ensures { result ≡ pair_behind depth pair byte }
 {
-    depth > 0 && !pair && byte == b'\\'
+    depth > 0 && begins_pair(pair, byte)
 }
 
 /// The bytes from their first word on, if they have a word.

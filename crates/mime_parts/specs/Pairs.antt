@@ -3,6 +3,7 @@ use Rattle.std.specs.Prelude.{ℕ, Bool, false, not, ◌&&◌, ◌==◌, if◌th
 use Rattle.std.specs.List.{before_first, list_all}
 use Rattle.kit.specs.declared.charset.Charset.TheVariants.{Utf8}
 use Rattle.kit.specs.Charsets.{to_text}
+use Rattle.kit.specs.Comments.{begins_pair}
 use Rattle.kit.specs.Cuts.{split_once}
 use Rattle.kit.specs.Letters.{lowered}
 use Rattle.kit.specs.Options.{◌>>=◌}
@@ -15,7 +16,7 @@ use Rattle.mime_parts.specs.Pieces.{further_pieces}
 abbrev pub inside_from : Bool → List ℕ → List ℕ
 inside_from pair [] = []
 inside_from pair (b ∷ bs) =
-    let escapes = b == 92 && not pair in
+    let escapes = begins_pair pair b in
     let more = inside_from escapes bs in
     if b == 34 && not pair then [] else if escapes then more else b ∷ more
 

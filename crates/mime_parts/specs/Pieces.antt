@@ -1,15 +1,16 @@
 -- The pieces of the body of a field: what it names, and its parameters (RFC 2045, section 5.1).
 use Rattle.std.specs.Prelude.{ℕ, Bool, false, not, ◌&&◌, ◌||◌, ◌==◌, if◌then◌else◌, List, [], ◌∷◌}
 use Rattle.std.specs.List.{before_first, onto_first}
+use Rattle.kit.specs.Comments.{begins_pair}
 use Rattle.kit.specs.White.{is_white}
 
 -- whether a quoted string is open behind a byte: a `"` (34) opens and closes one, unless it is the second byte of a pair
 abbrev pub quoted_behind : Bool → Bool → ℕ → Bool
 quoted_behind quoted pair b = if b == 34 && not pair then not quoted else quoted
 
--- whether the next byte is the second of a pair: behind a backslash (92) in a quoted string it is, unless that is a second one itself
+-- whether the next byte is the second of a pair, which stands in a quoted string alone
 abbrev pub pair_behind : Bool → Bool → ℕ → Bool
-pair_behind quoted pair b = quoted && not pair && b == 92
+pair_behind quoted pair b = quoted && begins_pair pair b
 
 -- the pieces of bytes of which the first is in a quoted string or not, and the second of a pair or not
 abbrev pub pieces_from : Bool → Bool → List ℕ → List (List ℕ)

@@ -7,7 +7,7 @@ ghost use Rattle.kit.specs.White.{is_white};
 ghost use Rattle.mime_parts.specs.Pairs.{bare, behind_quote, inside, name_of, pair_of, pairs, value_of};
 
 use crate::piece::further_pieces;
-use kit::{Bytes, Charset, Memory, Text, is_white, lower, split_once, to_text, trim};
+use kit::{Bytes, Charset, Memory, Text, begins_pair, is_white, lower, split_once, to_text, trim};
 use std::alloc::Global;
 
 /// A parameter as it is written, `name=value` (RFC 2045, section 5.1).
@@ -29,7 +29,7 @@ fn inside(alloc: Global, bytes: &[u8]) -> Result<Bytes, Memory>
         if *byte == b'"' && !pair {
             break;
         }
-        pair = *byte == b'\\' && !pair;
+        pair = begins_pair(pair, *byte);
         if !pair {
             value.push(*byte)?;
         }

@@ -2,7 +2,7 @@
 ghost use Rattle.std.specs.Prelude.{◌≡◌, ◌<◌, [], ◌∷◌, IfOk, IfSome, MatchOption, length, map, position};
 ghost use Rattle.mime_parts.specs.Pieces.{ends_word, further_pieces, main_word, pair_behind, pieces, quoted_behind, word_of};
 
-use kit::{Memory, is_white};
+use kit::{Memory, begins_pair, is_white};
 use std::alloc::Global;
 
 /// Whether a quoted string is open behind a byte, which may be the second of a pair.
@@ -15,11 +15,11 @@ fn quoted_behind(quoted: bool, pair: bool, byte: u8) -> bool
     }
 }
 
-/// Whether the byte behind is the second of a pair: behind a backslash in a quoted string it is.
+/// Whether the byte behind is the second of a pair, which stands in a quoted string alone.
 fn pair_behind(quoted: bool, pair: bool, byte: u8) -> bool
     ensures { result ≡ pair_behind quoted pair byte }
 {
-    quoted && !pair && byte == b'\\'
+    quoted && begins_pair(pair, byte)
 }
 
 /// The first piece, and what stands behind the `;` that ends it.

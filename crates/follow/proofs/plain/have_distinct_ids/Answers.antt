@@ -5,7 +5,7 @@ use Rattle.std.specs.Cmp.Lexicographic.{slice_cmp}
 use Rattle.std.specs.List.{list_any}
 use Rattle.std.specs.Ordering.{is_eq, nat_cmp}
 use Rattle.std.specs.Str.{bytes_eq}
-use Rattle.follow.specs.Plain.{are_distinct}
+use Rattle.kit.specs.Distinct.{are_distinct}
 use Rattle.follow.proofs.Distinct.{distinct_again, distinct_more, ids_more, member_more}
 use Rattle.follow.proofs.plain.have_distinct_ids.Goals as goal
 
