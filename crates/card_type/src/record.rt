@@ -12,11 +12,11 @@ use kit::{Addr, Id, Text};
 // Sums end at `u64::MAX` rather than overflow. No card that fits in memory comes near it, but no clause of std
 // says how much memory several vectors can have together.
 
-/// The bytes of a number, of a count and of what says whether a value stands.
+/// A flag, and what says whether a value stands or which of several it is.
 const B8: u64 = 1;
-
+/// A timer, and how many bytes or values follow.
 const B32: u64 = 4;
-
+/// A date, and the size of an attachment.
 const B64: u64 = 8;
 
 /// A value that stands in the record of a card.

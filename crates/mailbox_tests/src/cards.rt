@@ -69,7 +69,10 @@ fn text(alloc: Global, bytes: &str) -> Result<Text, Fail> {
 }
 
 fn key(alloc: Global, bytes: &str) -> Result<ChatKey, Fail> {
-    Ok(ChatKey::read(alloc, bytes.as_bytes())?.ok_or("no key")?)
+    match ChatKey::read(alloc, bytes.as_bytes())? {
+        Some(key) => Ok(key),
+        None => Err(Fail::from("no key")),
+    }
 }
 
 fn ids(alloc: Global, bytes: &str) -> Result<Items<Id>, Fail> {
