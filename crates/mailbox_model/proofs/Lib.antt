@@ -1,0 +1,4 @@
+-- Laws of the definitions, and rows that compute.
+pub mod OrderLaws
+mod WorkedCards
+mod Worked
