@@ -1,10 +1,14 @@
 -- What an insert into a rising list does to the first of each that are alike.
-use Rattle.std.proofs.Common.{◌≡◌, refl, sym, ap, ◌∙◌, Bool, true, false, not, ◌||◌, ◌&&◌, cond, List, [], ◌∷◌}
+use Rattle.std.proofs.Common.{◌≡◌, ◌≢◌, refl, sym, ap, ◌∙◌, Bool, true, false, not, ◌||◌, ◌&&◌, cond, List, [], ◌∷◌}
 use Rattle.std.specs.Prelude.{if◌then◌else◌}
-use Rattle.std.specs.List.{list_any, filter}
+use Rattle.std.specs.List.{AllByRecursion, list_any, filter}
 use Rattle.std.proofs.lemmas.List.Elements.{filter_agree}
 use Rattle.std.specs.declared.cmp.Ordering.{Ordering}
-use Rattle.std.specs.Ordering.{is_lt}
+use Rattle.std.specs.declared.cmp.Ordering.TheVariants.{Less, Equal, Greater}
+use Rattle.std.specs.Ordering.{is_lt, ordering_then, ordering_reverse}
+use Rattle.std.specs.Cmp.{IsTotalOrder}
+use Rattle.std.specs.List.Sorted.{IsStrictlySortedBy}
+use Rattle.std.proofs.lemmas.Bool.{false≢true}
 use Rattle.mailbox_model.specs.Lists.{put_in, firsts}
 
 module _ {X : Type 0} (cmp : X → X → Ordering) where
@@ -95,11 +99,11 @@ module _ {X : Type 0} (same : X → X → Bool) (cmp : X → X → Ordering) whe
   abbrev pub unlike : X → List X → List X
   unlike y zs = filter (λ z. not (same y z)) zs
 
-  Above-firsts : (x : X) (ys : List X) → Above cmp x ys → Above cmp x (firsts same ys)
+  pub Above-firsts : (x : X) (ys : List X) → Above cmp x ys → Above cmp x (firsts same ys)
   Above-firsts x [] a = tt
   Above-firsts x (y ∷ ys) a = (a.0, Above-filter cmp x (λ z. not (same y z)) (firsts same ys) (Above-firsts x ys a.1))
 
-  Rising-firsts : (ys : List X) → Rising cmp ys → Rising cmp (firsts same ys)
+  pub Rising-firsts : (ys : List X) → Rising cmp ys → Rising cmp (firsts same ys)
   Rising-firsts [] r = tt
   Rising-firsts (y ∷ ys) r = (Above-filter cmp y (λ z. not (same y z)) (firsts same ys) (Above-firsts y ys r.0), Rising-filter cmp (λ z. not (same y z)) (firsts same ys) (Rising-firsts ys r.1))
 
@@ -152,3 +156,41 @@ module _ {X : Type 0} (same : X → X → Bool) (cmp : X → X → Ordering) whe
               | true ↦ λ s. ap (λ xs. z ∷ xs) (dropped s (is_behind y zs))
               | false ↦ λ s. kept e s (is_behind y zs)
             ] refl
+
+-- ---- total orders
+
+is_Less : (o : Ordering) → is_lt o ≡ true → o ≡ Less
+is_Less Less e = refl
+is_Less Equal e = absurd (false≢true e)
+is_Less Greater e = absurd (false≢true e)
+
+module _ {X : Type 0} (cmp : X → X → Ordering) (total : IsTotalOrder cmp) where
+  pub below_of : IsBelow cmp
+  below_of = record { trans = λ x y z p q. ap is_lt (total.trans x y z (is_Less (cmp x y) p) (is_Less (cmp y z) q)) }
+
+  pub never_back : (x y : X) → is_lt (cmp x y) ≡ true → is_lt (cmp y x) ≡ false
+  never_back x y h = ap is_lt (total.antisymm y x) ∙ ap (λ o. is_lt (ordering_reverse o)) (is_Less (cmp x y) h)
+
+  -- of two that don't tie one stands before the other
+  pub apart : (x y : X) → cmp x y ≢ Equal → is_lt (cmp x y) ≡ false → is_lt (cmp y x) ≡ true
+  apart x y h e = ap is_lt (total.antisymm y x) ∙ turned (cmp x y) e h
+    where
+      turned : (o : Ordering) → is_lt o ≡ false → o ≢ Equal → is_lt (ordering_reverse o) ≡ true
+      turned Less e h = absurd (false≢true (sym e))
+      turned Equal e h = absurd (h refl)
+      turned Greater e h = refl
+
+  below_all : (x : X) (ys : List X) → Above cmp x ys → AllByRecursion (λ y. cmp x y ≡ Less) ys
+  below_all x [] a = tt
+  below_all x (y ∷ ys) a = (is_Less (cmp x y) a.0, below_all x ys a.1)
+
+  pub sorted_from : (xs : List X) → Rising cmp xs → IsStrictlySortedBy cmp xs
+  unfolding IsStrictlySortedBy
+  sorted_from [] r = tt
+  sorted_from (x ∷ xs) r = (below_all x xs r.0, sorted_from xs r.1)
+
+-- what ties by two orders ties by the second
+pub second_Equal : (a b : Ordering) → ordering_then a b ≡ Equal → b ≡ Equal
+second_Equal Less b e = cc
+second_Equal Equal b e = e
+second_Equal Greater b e = cc

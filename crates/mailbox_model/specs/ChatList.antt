@@ -1,9 +1,8 @@
 -- The list of chats, and of the mails that have no card.
 use Rattle.std.specs.Prelude.{ℕ, Option, Some, None, option_map, Result, Ok, Err, [], map, filter_map, count_by}
-use Rattle.std.specs.Option.{option_map_or}
+use Rattle.std.specs.Option.{option_map_or, option_cmp}
 use Rattle.std.specs.declared.cmp.Ordering.{Ordering}
-use Rattle.std.specs.declared.cmp.Ordering.TheVariants.{Less, Equal, Greater}
-use Rattle.std.specs.Ordering.{nat_cmp, on, then_cmp}
+use Rattle.std.specs.Ordering.{nat_cmp, on, then_cmp, flip_args}
 use Rattle.card_type.specs.declared.card.Card.{Card}
 use Rattle.card_type.specs.declared.key.ChatKey.{ChatKey}
 use Rattle.card_type.specs.Keys.{key_cmp}
@@ -30,12 +29,9 @@ list_row m key =
       body = option_map_or body (last_of rows) [];
     }
 
--- the latest first, none last
+-- the latest first; none, which comes before every moment, last
 abbrev pub latest_cmp : Option ℕ → Option ℕ → Ordering
-latest_cmp None None = Equal
-latest_cmp None (Some b) = Greater
-latest_cmp (Some a) None = Less
-latest_cmp (Some a) (Some b) = nat_cmp b a
+latest_cmp = flip_args (option_cmp nat_cmp)
 
 -- by the date of the last shown row, and then by key
 abbrev pub list_cmp : ListRow → ListRow → Ordering

@@ -1,7 +1,6 @@
 -- The page of a chat.
 use Rattle.std.specs.Prelude.{if◌then◌else◌, Option, Some, None, find, filter_map, map, List}
 use Rattle.std.specs.List.{list_any}
-use Rattle.std.specs.Str.{bytes_eq}
 use Rattle.kit.specs.Options.{◌>>=◌}
 use Rattle.card_type.specs.declared.key.ChatKey.{ChatKey}
 use Rattle.card_type.specs.Keys.{key_eq}
@@ -10,7 +9,7 @@ use Rattle.mailbox_model.specs.declared.row.Row.{Row}
 use Rattle.mailbox_model.specs.declared.page.ChatPage.{ChatPage}
 use Rattle.mailbox_model.specs.Lists.{Bytes, firsts}
 use Rattle.mailbox_model.specs.Mailbox.{Mailbox}
-use Rattle.mailbox_model.specs.Present.{contents}
+use Rattle.mailbox_model.specs.Present.{has_id, contents}
 use Rattle.mailbox_model.specs.Chats.{chats, chat_mails}
 use Rattle.mailbox_model.specs.Rows.{row}
 use Rattle.mailbox_model.specs.Rosters.{roster}
@@ -38,4 +37,4 @@ app_updates r = if r.app then Some r.updates else None
 
 -- the updates of the app with this id, where it is shown
 abbrev pub updates : Mailbox → Bytes → Option (List UpdateRow)
-updates m id = find (λ mail. bytes_eq id mail.card.id) (contents m) >>= row m >>= app_updates
+updates m id = find (has_id id) (contents m) >>= row m >>= app_updates

@@ -9,7 +9,7 @@ use Rattle.card_type.specs.declared.spot.Spot.{Spot}
 use Rattle.card_type.specs.Kinds.{kind_of, is_content}
 use Rattle.card_type.specs.Spots.{spot_cmp}
 use Rattle.mailbox_model.specs.declared.change.Fault.{Fault}
-use Rattle.mailbox_model.specs.Lists.{firsts, sorted_by}
+use Rattle.mailbox_model.specs.Lists.{Bytes, firsts, sorted_by}
 use Rattle.mailbox_model.specs.Mailbox.{Mailbox, Item}
 
 -- the lesser of the date and the arrival, and the arrival where there is no date
@@ -40,8 +40,12 @@ spot mail = record { date = mail.date; id = mail.card.id; uid = mail.uid }
 abbrev pub mail_cmp : Mail → Mail → Ordering
 mail_cmp = on spot spot_cmp
 
+-- all cards in mail order
 abbrev pub mails : Mailbox → List Mail
 mails m = sorted_by mail_cmp (filter_map mail_of m.items)
+
+abbrev pub has_id : Bytes → Mail → Bool
+has_id id mail = bytes_eq id mail.card.id
 
 abbrev pub same_id : Mail → Mail → Bool
 same_id a b = bytes_eq a.card.id b.card.id

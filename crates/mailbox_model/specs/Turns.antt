@@ -20,9 +20,14 @@ turn_in t None = Add (spot t)
 turn_in t (Some u) = if is_lt (mail_cmp t u) then Replace (spot u) (spot t) else Nothing
 
 -- what leaves gives way to the next one with its id, if there is one
-abbrev pub turn_out : Mail → Option Mail → Turn
-turn_out t None = Remove (spot t)
-turn_out t (Some u) = Replace (spot t) (spot u)
+abbrev pub turn_to : Mail → Option Mail → Turn
+turn_to t None = Remove (spot t)
+turn_to t (Some u) = Replace (spot t) (spot u)
+
+-- what leaves, where it was present, out of a mailbox that has these left
+abbrev pub turn_out : Option Mail → List Mail → Turn
+turn_out None left = Nothing
+turn_out (Some t) left = turn_to t (find (same_id t) left)
 
 abbrev pub has_mail_uid : ℕ → Mail → Bool
 has_mail_uid uid t = t.uid == uid
@@ -36,11 +41,7 @@ arriving m card = mail_with (arrival m (Ok card)) card
 abbrev pub turn : Mailbox → Change → Turn
 turn m (Arrive card) = turn_in (arriving m card) (find (same_id (arriving m card)) (present m))
 turn m (ArriveFault fault) = Nothing
-turn m (Expunge uid) =
-    elim (find (has_mail_uid uid) (present m)) [
-      | None ↦ Nothing
-      | Some t ↦ turn_out t (find (same_id t) (present (after m (Expunge uid))))
-    ]
+turn m (Expunge uid) = turn_out (find (has_mail_uid uid) (present m)) (present (after m (Expunge uid)))
 turn m (Seen uid) = if is_some (find (is_unseen uid) (present m)) then Marked uid else Nothing
 turn m (At moment) = if nat_lt m.now moment then Moved moment else Nothing
 

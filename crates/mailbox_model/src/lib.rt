@@ -5,6 +5,7 @@
 mod change;
 mod contact;
 mod item;
+mod laws;
 mod links;
 mod list;
 mod page;
@@ -15,6 +16,10 @@ mod turn;
 pub use change::{Change, Fault};
 pub use contact::ContactRow;
 pub use item::{Held, Item};
+pub use laws::{
+    changes_keep_the_rules, changes_move_the_present, chats_keep_the_rule,
+    equal_mailboxes_print_alike, list_has_each_chat, present_is_in_order,
+};
 pub use links::{Cites, Moved};
 pub use list::{FaultRow, ListPage, ListRow};
 pub use page::ChatPage;
