@@ -1,6 +1,6 @@
 -- The list has one row for each chat that has a card, in its order.
-use Rattle.std.proofs.Common.{◌≡◌, ◌≢◌, refl, sym, ap, ◌∙◌, subst, Bool, true, false, ◌||◌, cond, Some, is_some, List, [], ◌∷◌, length, map, arith}
-use Rattle.std.specs.Prelude.{fold, filter, ◌==◌}
+use Rattle.std.proofs.Common.{◌≡◌, ◌≢◌, refl, sym, ap, ◌∙◌, subst, Bool, true, false, ◌||◌, cond, Some, None, is_some, List, [], ◌∷◌, length, map, arith}
+use Rattle.std.specs.Prelude.{if◌then◌else◌, fold, filter, ◌==◌}
 use Rattle.std.specs.List.{list_any, find, AllByRecursion, IsDistinct}
 use Rattle.std.specs.List.Sorted.{IsStrictlySortedBy, IsPermutation}
 use Rattle.std.specs.Str.{bytes_eq}
@@ -19,7 +19,7 @@ use Rattle.mailbox_model.specs.Lists.{Bytes, put_in, sorted_by}
 use Rattle.mailbox_model.specs.Mailbox.{Mailbox}
 use Rattle.mailbox_model.specs.Present.{Mail, mails, same_id, present, contents}
 use Rattle.mailbox_model.specs.Chats.{Known, chat_at, chats, chat, is_chat, cites, cites_of, chat_mails}
-use Rattle.mailbox_model.specs.Pages.{keys}
+use Rattle.mailbox_model.specs.Pages.{keys, page_of, page}
 use Rattle.mailbox_model.specs.ChatList.{list, list_row, list_cmp, latest_cmp}
 use Rattle.mailbox_model.proofs.OrderLaws.{Rising, below_of, never_back, apart, second_Equal, sorted_from}
 use Rattle.mailbox_model.proofs.PutLaws.{None_of, All-put_in, Placed, Rising-put_in, find-firsts, list_any-found, IsDistinct-filter, IsDistinct-firsts}
@@ -161,3 +161,8 @@ rows_are m key =
     sym (list_any-IsPermutation (λ row. key_eq key row.key) (map (list_row m) (keys m)) (list m).rows (rows_all m))
     ∙ any_map (λ row. key_eq key row.key) (list_row m) (keys m)
     ∙ keys_are m key
+
+pub pages_are : (m : Mailbox) (key : ChatKey) → is_some (page m key) ≡ list_any (λ row. key_eq key row.key) (list m).rows
+pages_are m key =
+    elim (list_any (key_eq key) (keys m)) as (λ b. is_some (if b then Some (page_of m key) else None) ≡ b) [ true ↦ refl | false ↦ refl ]
+    ∙ keys_are m key ∙ sym (rows_are m key)

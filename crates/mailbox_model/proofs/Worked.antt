@@ -1,5 +1,5 @@
 -- Worked mailboxes: what is asked of each, and the text that answers it, computed from the definitions.
-use Rattle.std.proofs.Common.{◌≡◌, refl, Some, None, List, [], ◌∷◌}
+use Rattle.std.proofs.Common.{◌≡◌, refl, ℕ, true, false, Some, None, List, [], ◌∷◌}
 use Rattle.std.specs.Prelude.{codes}
 use Rattle.std.specs.Fmt.{digits}
 use Rattle.std.specs.Str.{chars}
@@ -8,11 +8,14 @@ use Rattle.card_type.specs.declared.key.ChatKey.TheVariants.{Single, Group, Thre
 use Rattle.mailbox_model.specs.declared.change.Change.{Change}
 use Rattle.mailbox_model.specs.declared.change.Change.TheVariants.{Arrive, ArriveFault, Expunge, Seen, At}
 use Rattle.mailbox_model.specs.declared.change.Fault.TheVariants.{NoFrom}
-use Rattle.mailbox_model.specs.Mailbox.{Mailbox, empty_mailbox, after_all}
+use Rattle.card_type.specs.declared.spot.Spot.{Spot}
+use Rattle.mailbox_model.specs.declared.turn.Turn.TheVariants.{Nothing, Add, Remove, Replace, Marked, Moved}
+use Rattle.mailbox_model.specs.Mailbox.{Mailbox, empty_mailbox, after_all, full}
+use Rattle.mailbox_model.specs.Turns.{turn}
 use Rattle.mailbox_model.specs.Times.{time_text, civil_date, span_and_rest}
 use Rattle.mailbox_model.specs.Answers.{answer}
 use Rattle.mailbox_model.specs.Answers.Question.{AllChats, OneChat, AllContacts, AllUpdates, InfoUpdates}
-use Rattle.mailbox_model.proofs.WorkedCards.{me, bob, ann, trip, M1, M2, E1, E2, X1, X2, T1, F2, O1, N1, N2, G0, G1, G2, G3, G4, G5, R1, R2, R3, A1, U1, U2, U3, H1, H2, H3, C1}
+use Rattle.mailbox_model.proofs.WorkedCards.{me, at, bob, ann, trip, M1, M2, E1, E2, X1, X2, T1, F2, O1, N1, N2, G0, G1, G2, G3, G4, G5, R1, R2, R3, A1, U1, U2, U3, H1, H2, H3, C1}
 
 abbrev box : List Change → Mailbox
 box changes = after_all (empty_mailbox me) changes
@@ -20,6 +23,10 @@ box changes = after_all (empty_mailbox me) changes
 -- 2024-05-01 12:00
 abbrev noon : Change
 noon = At 1714564800
+
+-- a place of the id m1@x.org in mail order
+abbrev place : ℕ → ℕ → Spot
+place date uid = record { date = date; id = codes "m1@x.org"; uid = uid }
 
 one_mail : answer (box (noon ∷ Arrive M1 ∷ [])) AllChats ≡ Some (codes "single:bob@x.org | Bob | fresh 1 | 2024-05-01 10:00 | Hi\n")
 unfolding time_text civil_date span_and_rest digits chars encode
@@ -144,3 +151,44 @@ no_chat = refl
 
 no_app : answer (box (noon ∷ Arrive M1 ∷ [])) (AllUpdates (codes "m1@x.org")) ≡ None
 no_app = refl
+
+-- how changes move the present cards: of one id the first in mail order is there
+turn_in : turn (box (noon ∷ [])) (Arrive M1) ≡ Add (place (at 10 0) 1)
+turn_in = refl
+
+turn_earlier : turn (box (noon ∷ Arrive M1 ∷ [])) (Arrive M2) ≡ Replace (place (at 10 0) 1) (place (at 9 0) 2)
+turn_earlier = refl
+
+turn_later : turn (box (noon ∷ Arrive M2 ∷ [])) (Arrive M1) ≡ Nothing
+turn_later = refl
+
+turn_gives_way : turn (box (noon ∷ Arrive M1 ∷ Arrive M2 ∷ [])) (Expunge 2) ≡ Replace (place (at 9 0) 2) (place (at 10 0) 1)
+turn_gives_way = refl
+
+turn_out : turn (box (noon ∷ Arrive M1 ∷ [])) (Expunge 1) ≡ Remove (place (at 10 0) 1)
+turn_out = refl
+
+turn_out_unknown : turn (box (noon ∷ Arrive M1 ∷ [])) (Expunge 2) ≡ Nothing
+turn_out_unknown = refl
+
+turn_seen : turn (box (noon ∷ Arrive M1 ∷ [])) (Seen 1) ≡ Marked 1
+turn_seen = refl
+
+turn_seen_again : turn (box (noon ∷ Arrive M1 ∷ Seen 1 ∷ [])) (Seen 1) ≡ Nothing
+turn_seen_again = refl
+
+turn_seen_hidden : turn (box (noon ∷ Arrive M1 ∷ Arrive M2 ∷ [])) (Seen 1) ≡ Nothing
+turn_seen_hidden = refl
+
+turn_clock : turn (box (noon ∷ [])) (At 1714564801) ≡ Moved 1714564801
+turn_clock = refl
+
+turn_clock_back : turn (box (noon ∷ [])) (At 1000) ≡ Nothing
+turn_clock_back = refl
+
+-- the last uid that a mail can have is 4,294,967,294
+last_uid : full (record (box []) { next_uid = 4294967294 }) (ArriveFault NoFrom) ≡ false
+last_uid = refl
+
+no_uid_left : full (record (box []) { next_uid = 4294967295 }) (ArriveFault NoFrom) ≡ true
+no_uid_left = refl

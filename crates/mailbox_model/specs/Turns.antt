@@ -1,7 +1,8 @@
 -- How a change moves the present cards and the moment.
-use Rattle.std.specs.Prelude.{◌≡◌, ◌≢◌, ℕ, ◌<◌, Bool, not, ◌&&◌, ◌==◌, nat_lt, if◌then◌else◌, Option, Some, None, is_some, List, map, find, Contains}
+use Rattle.std.specs.Prelude.{◌≡◌, ◌≢◌, ℕ, ◌<◌, Bool, not, ◌&&◌, ◌==◌, nat_lt, if◌then◌else◌, Option, Some, None, is_some, Ok, List, map, find, Contains}
 use Rattle.std.specs.Option.{option_or}
 use Rattle.std.specs.Ordering.{is_lt}
+use Rattle.card_type.specs.declared.card.Card.{Card}
 use Rattle.mailbox_model.specs.declared.change.Change.{Change}
 use Rattle.mailbox_model.specs.declared.change.Change.TheVariants.{Arrive, ArriveFault, Expunge, Seen, At}
 use Rattle.mailbox_model.specs.declared.turn.Turn.{Turn}
@@ -9,8 +10,6 @@ use Rattle.mailbox_model.specs.declared.turn.Turn.TheVariants.{Nothing, Add, Rem
 use Rattle.mailbox_model.specs.Lists.{put_in}
 use Rattle.mailbox_model.specs.Mailbox.{Mailbox, after, arrival}
 use Rattle.mailbox_model.specs.Present.{Mail, mail_with, spot, mail_cmp, same_id, present}
-use Rattle.card_type.specs.declared.card.Card.{Card}
-use Rattle.std.specs.Prelude.{Ok}
 
 -- ---- the turn of a change
 

@@ -1,6 +1,6 @@
 //! Laws of the definition of a mailbox and its pages. Each stands as the contract of a function that does nothing: its
 //! clauses speak of every mailbox and every change.
-ghost use Rattle.std.specs.Prelude.{◌≡◌, false, Some, None, List, [], ◌∷◌, ◌++◌, map, find, filter_map, option_and_then, if◌then◌else◌};
+ghost use Rattle.std.specs.Prelude.{◌≡◌, false, Some, None, List, [], ◌∷◌, ◌++◌, map, find, filter_map, option_and_then, is_some, if◌then◌else◌};
 ghost use Rattle.std.specs.List.{list_any, IsDistinct};
 ghost use Rattle.std.specs.List.Sorted.{IsStrictlySortedBy, IsPermutation};
 ghost use Rattle.card_type.specs.Keys.{key_eq};
@@ -13,7 +13,7 @@ ghost use Rattle.mailbox_model.specs.Mailbox.{Mailbox, empty_mailbox, after, ful
 ghost use Rattle.mailbox_model.specs.Present.{mail_of, mail_cmp, mails, has_id, same_id, present};
 ghost use Rattle.mailbox_model.specs.Turns.{turn, IsTurn};
 ghost use Rattle.mailbox_model.specs.Chats.{cites, chat, chat_from, chat_mails, has_cites, parent_among, KeepRule};
-ghost use Rattle.mailbox_model.specs.Pages.{keys};
+ghost use Rattle.mailbox_model.specs.Pages.{keys, page};
 ghost use Rattle.mailbox_model.specs.ChatList.{list, list_row, list_cmp};
 ghost use Rattle.mailbox_model.specs.Answers.{Question, answer};
 
@@ -65,11 +65,13 @@ pub fn chats_keep_the_rule()
 /// - `rows`: its rows are those of the keys, each once, in another order.
 /// - `once`: no key stands twice.
 /// - `chats`: a key has a row exactly where a card is in its chat.
+/// - `pages`: and a key has a page exactly where it has a row.
 /// - `order`: each row stands strictly before all that follow it, by the date of the last shown row and then by key.
 pub fn list_has_each_chat()
     ensures rows { (m : Mailbox) → IsPermutation (map (list_row m) (keys m)) (list m).rows }
     ensures once { (m : Mailbox) → IsDistinct key_eq (keys m) }
     ensures chats { (m : Mailbox) (key : ChatKey) → list_any (λ row. key_eq key row.key) (list m).rows ≡ has_some (chat_mails m key) }
+    ensures pages { (m : Mailbox) (key : ChatKey) → is_some (page m key) ≡ list_any (λ row. key_eq key row.key) (list m).rows }
     ensures order { (m : Mailbox) → IsStrictlySortedBy list_cmp (list m).rows }
 {}
 
