@@ -1,0 +1,12 @@
+-- Laws of the definitions, and rows that compute.
+pub mod OrderLaws
+pub mod PutLaws
+pub mod MailLaws
+pub mod TurnLaws
+pub mod ChatLaws
+pub mod RuleLaws
+pub mod PresentLaws
+pub mod ListLaws
+pub mod AnswerLaws
+mod WorkedCards
+mod Worked

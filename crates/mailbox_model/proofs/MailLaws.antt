@@ -1,0 +1,230 @@
+-- The mails of a mailbox in mail order: they rise, and what each change does to them.
+use Rattle.std.proofs.Common.{◌≡◌, ◌≢◌, refl, sym, ap, ◌∙◌, ℕ, ◌+◌, ◌<◌, ◌≤◌, Bool, true, false, not, cond, Option, Some, None, Result, Ok, Err, List, [], ◌∷◌, ◌++◌, map, arith}
+use Rattle.std.specs.Prelude.{if◌then◌else◌, fold, filter_map, filter, ◌==◌}
+use Rattle.std.specs.List.{AllByRecursion, IsDistinct, cons_option}
+use Rattle.std.specs.Option.{option_or}
+use Rattle.std.specs.Str.{bytes_eq}
+use Rattle.std.specs.declared.cmp.Ordering.TheVariants.{Equal}
+use Rattle.std.specs.Ordering.{nat_cmp, is_lt, ordering_then}
+use Rattle.std.specs.Cmp.{IsTotalOrder}
+use Rattle.std.specs.Cmp.Lexicographic.{slice_cmp, bytes_decides}
+use Rattle.std.proofs.lemmas.Cmp.{on_total}
+use Rattle.std.proofs.lemmas.Bool.{eq-eqb, ne_eqb, eqb-true}
+use Rattle.std.proofs.lemmas.Map.Lookups.{exact_unsigned}
+use Rattle.std.proofs.lemmas.List.Elements.{filter_map-append}
+use Rattle.std.proofs.lemmas.List.Sums.{fold_push}
+use Rattle.card_type.specs.declared.card.Card.{Card}
+use Rattle.card_type.specs.Spots.{spot_cmp}
+use Rattle.card_type.proofs.Orders.{spots_total}
+use Rattle.mailbox_model.specs.declared.change.Fault.{Fault}
+use Rattle.mailbox_model.specs.declared.change.Change.TheVariants.{Arrive, ArriveFault, Expunge, Seen}
+use Rattle.mailbox_model.specs.Lists.{Bytes, put_in, sorted_by}
+use Rattle.mailbox_model.specs.Mailbox.{Mailbox, Item, after, arrival, has_uid, marked, RiseBelow}
+use Rattle.mailbox_model.specs.Present.{Mail, mail_with, mail_by, mail_of, spot, mail_cmp, mails, same_id}
+use Rattle.mailbox_model.specs.Turns.{arriving, has_mail_uid, seen_at}
+use Rattle.mailbox_model.proofs.OrderLaws.{below_of, never_back, apart, second_Equal, Rising, IsAlike, IsBelow, filter-insert_kept, filter-insert_dropped}
+use Rattle.mailbox_model.proofs.PutLaws.{Placed, Rising-put_in, None_of, All-put_in, IsDistinct-put_in}
+
+-- ---- mail order is a strict order, and mails of one id are alike
+
+pub order : IsTotalOrder mail_cmp
+order = on_total spot spots_total
+
+abbrev earlier : Mail → Mail → Bool
+earlier a b = is_lt (mail_cmp a b)
+
+pub is_below : IsBelow mail_cmp
+is_below = below_of mail_cmp order
+
+pub is_never_back : (x y : Mail) → earlier x y ≡ true → earlier y x ≡ false
+is_never_back = never_back mail_cmp order
+
+both : (b c : Bool) → (b ≡ true → c ≡ true) → (c ≡ true → b ≡ true) → b ≡ c
+both true c f g = sym (f refl)
+both false true f g = g refl
+both false false f g = refl
+
+pub bytes_turn : (x y : Bytes) → bytes_eq x y ≡ bytes_eq y x
+bytes_turn x y = both (bytes_eq x y) (bytes_eq y x) (yes x y) (yes y x)
+  where
+    yes : (x y : Bytes) → bytes_eq x y ≡ true → bytes_eq y x ≡ true
+    yes x y e = (bytes_decides y x).1 (sym ((bytes_decides x y).0 e))
+
+pub is_alike : IsAlike same_id
+is_alike = record { turn = λ x y. bytes_turn x.card.id y.card.id; alike = λ x y z e. ap (λ id. bytes_eq id z.card.id) ((bytes_decides x.card.id y.card.id).0 e) }
+
+abbrev pub same_uid : Mail → Mail → Bool
+same_uid a b = a.uid == b.uid
+
+pub uid_alike : IsAlike same_uid
+uid_alike = record { turn = λ x y. turn x.uid y.uid; alike = λ x y z e. ap (λ n. n == z.uid) (eqb-true x.uid y.uid e) }
+  where
+    turn : (a b : ℕ) → (a == b) ≡ (b == a)
+    turn a b = both (a == b) (b == a) (λ e. eq-eqb b a (sym (eqb-true a b e))) (λ e. eq-eqb a b (sym (eqb-true b a e)))
+
+-- ---- mails are put in one by one, by rising uids
+
+-- mails with different uids don't tie
+no_tie : (y z : Mail) → z.uid < y.uid → mail_cmp y z ≢ Equal
+no_tie y z h k =
+    let by_id = ordering_then (slice_cmp nat_cmp y.card.id z.card.id) (nat_cmp y.uid z.uid) in
+    let same : y.uid ≡ z.uid = exact_unsigned y.uid z.uid (second_Equal (slice_cmp nat_cmp y.card.id z.card.id) (nat_cmp y.uid z.uid) (second_Equal (nat_cmp y.date z.date) by_id k)) in
+    omega (arith, same)
+
+abbrev pub AllUnder : ℕ → List Mail → Type 0
+AllUnder low zs = AllByRecursion (λ z. z.uid < low) zs
+
+AllUnder-more : (low more : ℕ) (zs : List Mail) → low ≤ more → AllUnder low zs → AllUnder more zs
+AllUnder-more low more [] h a = tt
+AllUnder-more low more (z ∷ zs) h a = (let k : z.uid < low = a.0 in omega arith, AllUnder-more low more zs h a.1)
+
+new_uid : (y : Mail) (zs : List Mail) → AllUnder y.uid zs → None_of (same_uid y) zs
+new_uid y [] a = tt
+new_uid y (z ∷ zs) a = (let k : z.uid < y.uid = a.0 in ne_eqb y.uid z.uid (λ e. omega arith), new_uid y zs a.1)
+
+placed : (y : Mail) (zs : List Mail) → AllUnder y.uid zs → Placed mail_cmp is_below is_never_back y zs
+placed y [] a = tt
+placed y (z ∷ zs) a = (apart mail_cmp order y z (no_tie y z a.0), placed y zs a.1)
+
+-- those of items whose uids rise, put in after some with lower uids
+abbrev put_all : List Mail → List Mail → List Mail
+put_all zs ys = fold (λ sorted y. put_in mail_cmp y sorted) zs ys
+
+-- in order, each uid once and below a bound
+pub record IsLine (bound : ℕ) (zs : List Mail) : Type 0 where
+  pub rising : Rising mail_cmp zs
+  pub once : IsDistinct same_uid zs
+  pub under : AllUnder bound zs
+
+no_mails : (bound : ℕ) → IsLine bound []
+unfolding IsDistinct
+no_mails bound = record { rising = tt; once = tt; under = tt }
+
+line_with : (bound : ℕ) (y : Mail) (zs : List Mail) → bound ≤ y.uid → IsLine bound zs → IsLine (y.uid + 1) (put_in mail_cmp y zs)
+line_with bound y zs h line =
+    let low : AllUnder y.uid zs = AllUnder-more bound y.uid zs h line.under in
+    record {
+      rising = Rising-put_in mail_cmp is_below is_never_back y zs (placed y zs low) line.rising;
+      once = IsDistinct-put_in mail_cmp same_uid uid_alike.turn y zs (new_uid y zs low) line.once;
+      under = All-put_in mail_cmp (λ z. z.uid < y.uid + 1) y zs (omega arith) (AllUnder-more y.uid (y.uid + 1) zs (omega arith) low);
+    }
+
+line_more : (low more : ℕ) (zs : List Mail) → low ≤ more → IsLine low zs → IsLine more zs
+line_more low more zs h line = record { rising = line.rising; once = line.once; under = AllUnder-more low more zs h line.under }
+
+line_from : (low next : ℕ) (zs : List Mail) (items : List Item) → RiseBelow low items next → IsLine low zs → IsLine next (put_all zs (filter_map mail_of items))
+line_from low next zs [] u line = line_more low next zs u line
+line_from low next zs (item ∷ items) u line =
+    elim item.mail as (λ mail. IsLine next (put_all zs (cons_option (mail_by item mail) (filter_map mail_of items)))) [
+      | Ok card ↦ line_from (item.uid + 1) next (put_in mail_cmp (mail_with item card) zs) items u.1 (line_with low (mail_with item card) zs u.0 line)
+      | Err fault ↦ line_from (item.uid + 1) next zs items u.1 (let first : low ≤ item.uid = u.0 in line_more low (item.uid + 1) zs (omega arith) line)
+    ]
+
+pub line_of : (m : Mailbox) → RiseBelow 1 m.items m.next_uid → IsLine m.next_uid (mails m)
+line_of m u = line_from 1 m.next_uid [] m.items u (no_mails 1)
+
+-- ---- an arrival
+
+pub mails-arrive : (m : Mailbox) (card : Card) → mails (after m (Arrive card)) ≡ put_in mail_cmp (arriving m card) (mails m)
+mails-arrive m card =
+    ap (sorted_by mail_cmp) (filter_map-append mail_of m.items (arrival m (Ok card) ∷ []))
+    ∙ fold_push (λ sorted y. put_in mail_cmp y sorted) [] (filter_map mail_of m.items) (arriving m card)
+
+pub mails-fault : (m : Mailbox) (fault : Fault) → mails (after m (ArriveFault fault)) ≡ mails m
+mails-fault m fault = ap (sorted_by mail_cmp) (filter_map-append mail_of m.items (arrival m (Err fault) ∷ []) ∙ append_nil (filter_map mail_of m.items))
+  where
+    append_nil : (xs : List Mail) → xs ++ [] ≡ xs
+    append_nil [] = refl
+    append_nil (x ∷ xs) = ap (λ ys. x ∷ ys) (append_nil xs)
+
+-- ---- an expunge
+
+abbrev pub but_uid : ℕ → List Mail → List Mail
+but_uid uid zs = filter (λ z. not (has_mail_uid uid z)) zs
+
+abbrev left : ℕ → List Item → List Item
+left uid items = filter (λ item. not (has_uid uid item)) items
+
+expunged_from : (uid low next : ℕ) (zs : List Mail) (items : List Item) → RiseBelow low items next → IsLine low zs →
+    but_uid uid (put_all zs (filter_map mail_of items)) ≡ put_all (but_uid uid zs) (filter_map mail_of (left uid items))
+expunged_from uid low next zs [] u line = refl
+expunged_from uid low next zs (item ∷ items) u line =
+    elim item.mail as (λ mail. but_uid uid (put_all zs (cons_option (mail_by item mail) (filter_map mail_of items))) ≡ put_all (but_uid uid zs) (rest mail (not (has_uid uid item)))) [
+      | Ok card ↦
+          let y = mail_with item card in
+          expunged_from uid (item.uid + 1) next (put_in mail_cmp y zs) items u.1 (line_with low y zs u.0 line)
+          ∙ by (not (has_uid uid item)) refl card
+      | Err fault ↦
+          let first : low ≤ item.uid = u.0 in
+          expunged_from uid (item.uid + 1) next zs items u.1 (line_more low (item.uid + 1) zs (omega arith) line) ∙ skip fault (not (has_uid uid item))
+    ] ∙ ap (λ ys. put_all (but_uid uid zs) ys) (whole (not (has_uid uid item)))
+  where
+    rest : Result Card Fault → Bool → List Mail
+    rest mail b = cond b (cons_option (mail_by item mail) (filter_map mail_of (left uid items))) (filter_map mail_of (left uid items))
+
+    by : (b : Bool) → not (has_uid uid item) ≡ b → (card : Card) → put_all (but_uid uid (put_in mail_cmp (mail_with item card) zs)) (filter_map mail_of (left uid items)) ≡ put_all (but_uid uid zs) (rest (Ok card) b)
+    by true e card = ap (λ s. put_all s (filter_map mail_of (left uid items))) (filter-insert_kept mail_cmp is_below.trans (λ z. not (has_mail_uid uid z)) (mail_with item card) zs e line.rising)
+    by false e card = ap (λ s. put_all s (filter_map mail_of (left uid items))) (filter-insert_dropped mail_cmp (λ z. not (has_mail_uid uid z)) (mail_with item card) zs e)
+
+    skip : (fault : Fault) (b : Bool) → put_all (but_uid uid zs) (filter_map mail_of (left uid items)) ≡ put_all (but_uid uid zs) (rest (Err fault) b)
+    skip fault true = refl
+    skip fault false = refl
+
+    whole : (b : Bool) → rest item.mail b ≡ filter_map mail_of (cond b (item ∷ left uid items) (left uid items))
+    whole true = refl
+    whole false = refl
+
+pub mails-expunge : (m : Mailbox) (uid : ℕ) → RiseBelow 1 m.items m.next_uid → mails (after m (Expunge uid)) ≡ but_uid uid (mails m)
+mails-expunge m uid u = sym (expunged_from uid 1 m.next_uid [] m.items u (no_mails 1))
+
+-- ---- a seen mark
+
+put_in-seen : (uid now : ℕ) (y : Mail) (zs : List Mail) → map (seen_at uid now) (put_in mail_cmp y zs) ≡ put_in mail_cmp (seen_at uid now y) (map (seen_at uid now) zs)
+put_in-seen uid now y [] = refl
+put_in-seen uid now y (z ∷ zs) =
+    turn (earlier y z) _ _ (put_in-seen uid now y zs) ∙ ap (λ o. if is_lt o then seen_at uid now y ∷ seen_at uid now z ∷ map (seen_at uid now) zs else seen_at uid now z ∷ put_in mail_cmp (seen_at uid now y) (map (seen_at uid now) zs)) (λ i. spot_cmp (spots y i) (spots z i))
+  where
+    spots : (t : Mail) → spot t ≡ spot (seen_at uid now t)
+    spots t = elim (has_mail_uid uid t) as (λ b. spot t ≡ spot (if b then record t { seen = option_or t.seen (Some now) } else t)) [ true ↦ refl | false ↦ refl ]
+
+    turn : (b : Bool) (us vs : List Mail) → map (seen_at uid now) us ≡ vs → map (seen_at uid now) (if b then y ∷ z ∷ zs else z ∷ us) ≡ (if b then seen_at uid now y ∷ seen_at uid now z ∷ map (seen_at uid now) zs else seen_at uid now z ∷ vs)
+    turn true us vs h = refl
+    turn false us vs h = ap (λ ws. seen_at uid now z ∷ ws) h
+
+seen_from : (uid now : ℕ) (zs : List Mail) (items : List Item) → map (seen_at uid now) (put_all zs (filter_map mail_of items)) ≡ put_all (map (seen_at uid now) zs) (filter_map mail_of (map (marked uid now) items))
+seen_from uid now zs [] = refl
+seen_from uid now zs (item ∷ items) =
+    elim item.mail as (λ mail. map (seen_at uid now) (put_all zs (cons_option (mail_by item mail) (filter_map mail_of items))) ≡ put_all (map (seen_at uid now) zs) (cons_option (seen_by mail) (filter_map mail_of (map (marked uid now) items)))) [
+      | Ok card ↦
+          seen_from uid now (put_in mail_cmp (mail_with item card) zs) items
+          ∙ ap (λ ws. put_all ws (filter_map mail_of (map (marked uid now) items))) (put_in-seen uid now (mail_with item card) zs)
+      | Err fault ↦ seen_from uid now zs items
+    ] ∙ ap (λ o. put_all (map (seen_at uid now) zs) (cons_option o (filter_map mail_of (map (marked uid now) items)))) (same (has_uid uid item))
+  where
+    mark : Bool → Mail → Mail
+    mark b t = if b then record t { seen = option_or t.seen (Some now) } else t
+
+    by : Bool → Result Card Fault → Option Mail
+    by b (Ok card) = Some (mark b (mail_with item card))
+    by b (Err fault) = None
+
+    seen_by : Result Card Fault → Option Mail
+    seen_by mail = by (has_uid uid item) mail
+
+    made : (b : Bool) → Item → Item
+    made b i = if b then record i { seen = option_or i.seen (Some now) } else i
+
+    same : (b : Bool) → by b item.mail ≡ mail_of (made b item)
+    same true = at item.mail
+      where
+        at : (mail : Result Card Fault) → by true mail ≡ mail_by (made true item) mail
+        at (Ok card) = refl
+        at (Err fault) = refl
+    same false = at item.mail
+      where
+        at : (mail : Result Card Fault) → by false mail ≡ mail_by item mail
+        at (Ok card) = refl
+        at (Err fault) = refl
+
+pub mails-seen : (m : Mailbox) (uid : ℕ) → mails (after m (Seen uid)) ≡ map (seen_at uid m.now) (mails m)
+mails-seen m uid = sym (seen_from uid m.now [] m.items)

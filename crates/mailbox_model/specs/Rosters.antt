@@ -1,0 +1,89 @@
+-- Who is in a chat, how a group or thread is called, and when its mails vanish.
+use Rattle.std.specs.Prelude.{ℕ, Bool, true, false, not, ◌&&◌, ◌||◌, if◌then◌else◌, is_some, List, [], ◌∷◌, ◌++◌, map, fold}
+use Rattle.std.specs.Option.{option_map_or, option_to_list}
+use Rattle.card_type.specs.declared.card.Card.{Card}
+use Rattle.card_type.specs.declared.key.ChatKey.{ChatKey}
+use Rattle.card_type.specs.declared.key.ChatKey.TheVariants.{SelfChat, Single, Group, Thread}
+use Rattle.card_type.specs.Effects.{is_among}
+use Rattle.card_type.specs.Kinds.{has_some}
+use Rattle.mailbox_model.specs.declared.roster.Roster.{Roster}
+use Rattle.mailbox_model.specs.Lists.{Bytes, each_once, without}
+use Rattle.mailbox_model.specs.Mailbox.{Mailbox}
+use Rattle.mailbox_model.specs.Chats.{people, chat_mails}
+
+-- From, To and the added one, each once, without the removed one
+abbrev pub listed : Card → List Bytes
+listed c =
+    let all = each_once ((c.from ∷ c.to) ++ option_to_list c.added) in
+    option_map_or (λ removed. without removed all) c.removed all
+
+-- the timer that a chat has after a card
+abbrev pub timer_after : ℕ → Card → ℕ
+timer_after timer c = if c.chat then c.timer else timer
+
+-- ---- a group
+
+abbrev pub group_begun : Card → Roster
+group_begun c = record { begun = true; members = listed c; name = c.group_name; timer = timer_after 0 c }
+
+abbrev pub changes_members : Card → Bool
+changes_members c = is_some c.added || is_some c.removed
+
+abbrev pub changes_name : Card → Bool
+changes_name c = c.renamed && has_some c.group_name
+
+-- a card of a member tells who is in, the name and the timer
+abbrev pub group_told : Roster → Card → Roster
+group_told r c =
+    record {
+      begun = true;
+      members = if changes_members c then listed c else r.members;
+      name = if changes_name c then c.group_name else r.name;
+      timer = timer_after r.timer c;
+    }
+
+-- after the first card, after one of a member, and after one of a stranger
+abbrev pub group_after : Roster → Card → Roster
+group_after r c =
+    if not r.begun then group_begun c
+    else if is_among r.members c.from then group_told r c
+    else r
+
+-- ---- other chats
+
+abbrev pub thread_after : Roster → Card → Roster
+thread_after r c =
+    record {
+      begun = true;
+      members = each_once (r.members ++ people c);
+      name = if r.begun then r.name else c.subject;
+      timer = timer_after r.timer c;
+    }
+
+abbrev pub direct_after : Roster → Card → Roster
+direct_after r c = record r { begun = true; timer = timer_after r.timer c }
+
+-- ---- any chat
+
+abbrev pub roster_after : ChatKey → Roster → Card → Roster
+roster_after SelfChat r c = direct_after r c
+roster_after (Single a) r c = direct_after r c
+roster_after (Group g) r c = group_after r c
+roster_after (Thread i) r c = thread_after r c
+
+abbrev pub first_members : Bytes → ChatKey → List Bytes
+first_members me SelfChat = me ∷ []
+first_members me (Single a) = me ∷ a ∷ []
+first_members me (Group g) = []
+first_members me (Thread i) = []
+
+-- of no card
+abbrev pub no_roster : Bytes → ChatKey → Roster
+no_roster me key = record { begun = false; members = first_members me key; name = []; timer = 0 }
+
+-- of these cards, in mail order
+abbrev pub roster_of : Bytes → ChatKey → List Card → Roster
+roster_of me key cards = fold (roster_after key) (no_roster me key) cards
+
+abbrev pub roster : Mailbox → ChatKey → Roster
+roster m key = roster_of m.me key (map (λ mail. mail.card) (chat_mails m key))

@@ -1,0 +1,28 @@
+//! What a mailbox is and what is shown of it: the values that the crates above share, and in `specs/` the one definition
+//! of the pages of a mailbox. It has no logic of its own; its functions are laws of that definition.
+#![tactic(auto)]
+
+mod change;
+mod contact;
+mod item;
+mod laws;
+mod links;
+mod list;
+mod page;
+mod roster;
+mod row;
+mod turn;
+
+pub use change::{Change, Fault};
+pub use contact::ContactRow;
+pub use item::{Held, Item};
+pub use laws::{
+    changes_keep_the_rules, changes_move_the_present, chats_keep_the_rule,
+    equal_mailboxes_print_alike, list_has_each_chat, present_is_in_order,
+};
+pub use links::{Cites, Moved};
+pub use list::{FaultRow, ListPage, ListRow};
+pub use page::ChatPage;
+pub use roster::Roster;
+pub use row::{Mark, Row, UpdateRow};
+pub use turn::Turn;
