@@ -8,7 +8,7 @@ use Rattle.jiff_core.specs.Date.{epoch_day, IsYmd}
 use Rattle.jiff_core.proofs.SignedLemmas.{signed_arith}
 use Rattle.jiff_core.proofs.CalendarLemmas.{days_from_civil-day_count, day_count-epoch, day_count-end, day_count-next_year, day_count-later_year, day_count-year_is, day_count-next_month, day_count-lt_month, day_count-day, day_count_bounds, days_in_month_bounds, days_in_year_bounds}
 use Rattle.jiff_core.proofs.DateLemmas.{civil}
-use Rattle.follow.specs.Times.{span_and_rest, civil_date}
+use Rattle.mailbox_model.specs.Times.{span_and_rest, civil_date}
 
 -- From the first span on, each has a day, and the next one starts where it ends.
 pub record AreSpans (length_of start : ℕ → ℕ) (first : ℕ) : Type 0 where

@@ -5,7 +5,7 @@ use Rattle.jiff_core.specs.Calendar.{days_from_civil, day_count, days_of_years, 
 use Rattle.kit.specs.Moments.{last_moment}
 use Rattle.mail_date.specs.Moment.{moment}
 use Rattle.follow.specs.Dates.{plain_moment}
-use Rattle.follow.specs.Times.{time_text, civil_date, span_and_rest}
+use Rattle.mailbox_model.specs.Times.{time_text, civil_date, span_and_rest}
 
 in_may : plain_moment (codes "Wed, 01 May 2024 10:00:00 +0000") ≡ Some 1714557600
 unfolding moment days_from_civil day_count days_of_years days_of_months

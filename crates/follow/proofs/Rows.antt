@@ -7,7 +7,7 @@ use lib.Utf8.{encode}
 use Rattle.jiff_core.specs.Calendar.{days_from_civil, day_count, days_of_years, days_of_months}
 use Rattle.follow.specs.declared.status.Refusal.TheVariants as refusal
 use Rattle.mail_date.specs.Moment.{moment}
-use Rattle.follow.specs.Times.{time_text, civil_date, span_and_rest}
+use Rattle.mailbox_model.specs.Times.{time_text, civil_date, span_and_rest}
 use Rattle.follow.specs.Outcome.{outcome}
 
 abbrev words : List (List ℕ)

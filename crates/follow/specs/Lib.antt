@@ -1,7 +1,6 @@
 -- What a run answers, by its words and by what its devices tell.
 pub mod Options
 pub mod Dates
-pub mod Times
 pub mod Words
 pub mod Views
 pub mod Grammar

@@ -3,7 +3,7 @@ use Rattle.std.specs.Prelude.{ℕ, codes, List, ◌++◌, take, flat_map, Option
 use Rattle.std.specs.Fmt.{decimal}
 use Rattle.std.specs.Str.{chars, encode_utf8_all}
 use Rattle.follow.specs.declared.list.ListRow.{ListRow}
-use Rattle.follow.specs.Times.{time_text}
+use Rattle.mailbox_model.specs.Times.{time_text}
 
 abbrev pub time_or_dash : Option ℕ → List ℕ
 time_or_dash None = codes "-"

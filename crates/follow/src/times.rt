@@ -3,7 +3,7 @@ ghost use Rattle.std.specs.Prelude.{◌≡◌, ◌++◌, ◌<◌, ◌≤◌, OnO
 ghost use Rattle.jiff_core.specs.Date.{epoch_day, IsYmd};
 ghost use Rattle.mail_date.specs.Days.{last_day};
 ghost use Rattle.kit.specs.Moments.{last_moment};
-ghost use Rattle.follow.specs.Times.{civil_date, date_text, clock_text, four_digits, time_text, two_digits};
+ghost use Rattle.mailbox_model.specs.Times.{civil_date, date_text, clock_text, four_digits, time_text, two_digits};
 
 use jiff_core::civil::Date;
 use kit::Memory;

@@ -1,5 +1,5 @@
 use Rattle.std.proofs.Common.{◌≡◌, ℕ, List, ◌++◌, ◌/◌, ◌%◌, append_assoc, codes}
-use Rattle.follow.specs.Times.{civil_date, date_text, clock_text, time_text}
+use Rattle.mailbox_model.specs.Times.{civil_date, date_text, clock_text, time_text}
 use Rattle.follow.proofs.times.push_time.Goals as goal
 
 in_turn : (old dated spaced date space clock : List ℕ) → dated ≡ old ++ date → spaced ≡ dated ++ space → old ++ (date ++ space ++ clock) ≡ spaced ++ clock
