@@ -144,7 +144,7 @@ ids_known m = ids-chats_after [] (cites m) ∙ ids_of m.me (contents m)
 once_known : (m : Mailbox) → OnceKnown (chats m)
 once_known m = subst (IsDistinct bytes_eq) (sym (ids_known m)) (distinct_ids (contents m) (IsDistinct-filter same_id (λ t. is_content (kind_of t.card)) (present m) (IsDistinct-firsts same_id (mails m))))
 
-keys_are : (m : Mailbox) (key : ChatKey) → list_any (key_eq key) (keys m) ≡ has_some (chat_mails m key)
+pub keys_are : (m : Mailbox) (key : ChatKey) → list_any (key_eq key) (keys m) ≡ has_some (chat_mails m key)
 keys_are m key =
     let all = map (λ k. k.1) (chats m) in
     list_any-found (key_eq key) (keys m)

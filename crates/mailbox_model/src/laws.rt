@@ -14,6 +14,7 @@ ghost use Rattle.mailbox_model.specs.Present.{mail_of, mail_cmp, mails, has_id, 
 ghost use Rattle.mailbox_model.specs.Turns.{turn, IsTurn};
 ghost use Rattle.mailbox_model.specs.Chats.{cites, chat, chat_from, chat_mails, has_cites, parent_among, KeepRule};
 ghost use Rattle.mailbox_model.specs.Pages.{keys, page};
+ghost use Rattle.mailbox_model.specs.Frames.{IsChatAlike};
 ghost use Rattle.mailbox_model.specs.ChatList.{list, list_row, list_cmp};
 ghost use Rattle.mailbox_model.specs.Answers.{Question, answer};
 
@@ -73,6 +74,13 @@ pub fn list_has_each_chat()
     ensures chats { (m : Mailbox) (key : ChatKey) → list_any (λ row. key_eq key row.key) (list m).rows ≡ has_some (chat_mails m key) }
     ensures pages { (m : Mailbox) (key : ChatKey) → is_some (page m key) ≡ list_any (λ row. key_eq key row.key) (list m).rows }
     ensures order { (m : Mailbox) → IsStrictlySortedBy list_cmp (list m).rows }
+{}
+
+/// A page follows from few things: where two mailboxes have alike the own address, the cards of a chat, who acts on each
+/// of them, which of them are expired, and for a chat with one other the name of that contact, the chat has one page in
+/// both.
+pub fn page_follows_from_its_chat()
+    ensures { (m n : Mailbox) (key : ChatKey) → IsChatAlike m n key → page m key ≡ page n key }
 {}
 
 /// One mailbox has one text: where the own addresses, the moments and the items are equal, each question is answered by
