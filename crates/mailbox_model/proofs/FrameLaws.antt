@@ -39,7 +39,8 @@ row_alike m n me t s = λ i.
       updates = updates_by (s.acts effects.Update i);
     })
 
-rows_alike : (m n : Mailbox) → m.me ≡ n.me → (ts : List Mail) → AllByRecursion (IsCardAlike m n) ts → filter_map (row m) ts ≡ filter_map (row n) ts
+rows_alike : (m n : Mailbox) → m.me ≡ n.me → (ts : List Mail) → AllByRecursion (IsCardAlike m n) ts
+    → filter_map (row m) ts ≡ filter_map (row n) ts
 rows_alike m n me [] a = refl
 rows_alike m n me (t ∷ ts) a = λ i. cons_option (row_alike m n me t a.0 i) (rows_alike m n me ts a.1 i)
 
@@ -63,7 +64,8 @@ module _ (m n : Mailbox) (key : ChatKey) (alike : IsChatAlike m n key) where
   rows = rows_alike m n alike.me (chat_mails m key) alike.each ∙ ap (filter_map (row n)) alike.mails
 
   pages : page_of m key ≡ page_of n key
-  pages = λ i. record { key = key; name = names i; members = (rosters key refl i).members; timer = (rosters key refl i).timer; rows = rows i }
+  pages =
+      λ i. record { key = key; name = names i; members = (rosters key refl i).members; timer = (rosters key refl i).timer; rows = rows i }
 
   pub page_alike : page m key ≡ page n key
   page_alike = λ i. if there i then Some (pages i) else None
