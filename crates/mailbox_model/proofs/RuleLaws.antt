@@ -13,7 +13,7 @@ use Rattle.mailbox_model.specs.declared.change.Fault.{Fault}
 use Rattle.mailbox_model.specs.declared.change.Change.{Change}
 use Rattle.mailbox_model.specs.declared.change.Change.TheVariants.{Arrive, ArriveFault, Expunge, Seen, At}
 use Rattle.mailbox_model.specs.Lists.{Bytes}
-use Rattle.mailbox_model.specs.Mailbox.{Mailbox, Item, empty_mailbox, arrival, with_arrival, has_uid, marked, after, mail_weight, weights, lacks_room, full, most_items, most_weight, end_of_uids, RiseBelow, IsItem, IsMailbox, IsValidChange}
+use Rattle.mailbox_model.specs.Mailbox.{Mailbox, Item, empty_mailbox, arrival, with_arrival, has_uid, marked, after, after_all, mail_weight, weights, lacks_room, full, most_items, most_weight, end_of_uids, RiseBelow, IsItem, IsMailbox, IsValidChange, AreAllowed}
 use Rattle.mailbox_model.proofs.PutLaws.{All-filter}
 
 pub empty_keeps : (me : Bytes) → IsMailbox (empty_mailbox me)
@@ -165,3 +165,7 @@ change_keeps m (ArriveFault fault) k valid room = arrival_keeps m (Err fault) k 
 change_keeps m (Expunge uid) k valid room = expunge_keeps m uid k
 change_keeps m (Seen uid) k valid room = seen_keeps m uid k
 change_keeps m (At moment) k valid room = at_keeps m moment valid k
+
+pub changes_keep : (m : Mailbox) (changes : List Change) → IsMailbox m → AreAllowed m changes → IsMailbox (after_all m changes)
+changes_keep m [] k a = k
+changes_keep m (change ∷ changes) k a = changes_keep (after m change) changes (change_keeps m change k a.0 a.1) a.2
