@@ -13,7 +13,7 @@ use Rattle.mailbox_model.specs.Chats.{Known, chat_at, chat_among, chats_after, c
 use Rattle.kit.specs.Options.{◌>>=◌}
 use Rattle.card_type.specs.Kinds.{kind_of, is_content}
 use Rattle.std.specs.List.{AllByRecursion, IsDistinct}
-use Rattle.std.proofs.lemmas.List.{map-append}
+use Rattle.std.proofs.lemmas.List.{append-nil, map-append}
 use Rattle.mailbox_model.specs.Mailbox.{Mailbox}
 use Rattle.mailbox_model.specs.Present.{Mail, mails, same_id, present, contents}
 use Rattle.mailbox_model.specs.Chats.{cites_of, cites, chat}
@@ -30,7 +30,8 @@ same_bytes xs = (bytes_decides xs xs).1 refl
 
 -- ---- a look-up
 
-chat_at-append : (known more : Known) (id : Bytes) → chat_at (known ++ more) id ≡ option_or (chat_at known id) (chat_at more id)
+chat_at-append : (known more : Known) (id : Bytes)
+    → chat_at (known ++ more) id ≡ option_or (chat_at known id) (chat_at more id)
 chat_at-append [] more id = refl
 chat_at-append (k ∷ known) more id =
     elim (bytes_eq id k.0) as (λ b. option_map (λ e. e.1) (cond b (Some k) (find (λ e. bytes_eq id e.0) (known ++ more))) ≡ option_or (option_map (λ e. e.1) (cond b (Some k) (find (λ e. bytes_eq id e.0) known))) (chat_at more id)) [
@@ -49,7 +50,8 @@ there : (k : Bytes × ChatKey) → chat_at (k ∷ []) k.0 ≡ Some k.1
 there k = rw (same_bytes k.0, find) refl
 
 -- what is known of an id stays, where none that follows has it
-pub chat_at_kept : (known : Known) (ts : List Cites) (id : Bytes) → has_cites ts id ≡ false → chat_at (chats_after known ts) id ≡ chat_at known id
+pub chat_at_kept : (known : Known) (ts : List Cites) (id : Bytes) → has_cites ts id ≡ false
+    → chat_at (chats_after known ts) id ≡ chat_at known id
 chat_at_kept known [] id h = refl
 chat_at_kept known (t ∷ ts) id h =
     let parts = or_parts (bytes_eq id t.spot.id) (has_cites ts id) h in
@@ -57,13 +59,15 @@ chat_at_kept known (t ∷ ts) id h =
     chat_at_kept (known ++ one) ts id parts.1 ∙ chat_at-append known one id ∙ ap (option_or (chat_at known id)) (rw (parts.0, find) refl) ∙ or_none (chat_at known id)
 
 -- what is known of an id stays in any case
-pub chat_at_known : (known : Known) (ts : List Cites) (id : Bytes) (key : ChatKey) → chat_at known id ≡ Some key → chat_at (chats_after known ts) id ≡ Some key
+pub chat_at_known : (known : Known) (ts : List Cites) (id : Bytes) (key : ChatKey) → chat_at known id ≡ Some key
+    → chat_at (chats_after known ts) id ≡ Some key
 chat_at_known known [] id key h = h
 chat_at_known known (t ∷ ts) id key h =
     let one = (t.spot.id, chat_among known t) ∷ [] in
     chat_at_known (known ++ one) ts id key (chat_at-append known one id ∙ ap (λ o. option_or o (chat_at one id)) h)
 
-pub chats_after-append : (known : Known) (xs ys : List Cites) → chats_after known (xs ++ ys) ≡ chats_after (chats_after known xs) ys
+pub chats_after-append : (known : Known) (xs ys : List Cites)
+    → chats_after known (xs ++ ys) ≡ chats_after (chats_after known xs) ys
 chats_after-append known [] ys = refl
 chats_after-append known (x ∷ xs) ys = chats_after-append (known ++ (x.spot.id, chat_among known x) ∷ []) xs ys
 
@@ -76,7 +80,8 @@ table-append : (f : Bytes → ChatKey) (xs ys : List Cites) → table f (xs ++ y
 table-append f [] ys = refl
 table-append f (x ∷ xs) ys = ap (λ k. (x.spot.id, f x.spot.id) ∷ k) (table-append f xs ys)
 
-pub chat_at-table : (f : Bytes → ChatKey) (ts : List Cites) (id : Bytes) → chat_at (table f ts) id ≡ (if has_cites ts id then Some (f id) else None)
+pub chat_at-table : (f : Bytes → ChatKey) (ts : List Cites) (id : Bytes)
+    → chat_at (table f ts) id ≡ (if has_cites ts id then Some (f id) else None)
 chat_at-table f [] id = refl
 chat_at-table f (t ∷ ts) id =
     elim (bytes_eq id t.spot.id) as (λ b. bytes_eq id t.spot.id ≡ b → option_map (λ k. k.1) (cond b (Some (t.spot.id, f t.spot.id)) (find (λ k. bytes_eq id k.0) (table f ts))) ≡ (if b || has_cites ts id then Some (f id) else None)) [
@@ -84,7 +89,8 @@ chat_at-table f (t ∷ ts) id =
       | false ↦ λ e. chat_at-table f ts id
     ] refl
 
-first_some-table : (f : Bytes → ChatKey) (earlier : List Cites) (ids : List Bytes) → first_some (chat_at (table f earlier)) ids ≡ option_map f (find (has_cites earlier) ids)
+first_some-table : (f : Bytes → ChatKey) (earlier : List Cites) (ids : List Bytes)
+    → first_some (chat_at (table f earlier)) ids ≡ option_map f (find (has_cites earlier) ids)
 first_some-table f earlier [] = refl
 first_some-table f earlier (id ∷ ids) =
     ap (λ o. option_or o (first_some (chat_at (table f earlier)) ids)) (chat_at-table f earlier id)
@@ -93,12 +99,9 @@ first_some-table f earlier (id ∷ ids) =
       | false ↦ first_some-table f earlier ids
     ]
 
-unique : (f : Bytes → ChatKey) (earlier ts : List Cites) → KeepRule f earlier ts → chats_after (table f earlier) ts ≡ table f (earlier ++ ts)
-unique f earlier [] s = rw append_nil refl
-  where
-    append_nil : (xs : List Cites) → xs ++ [] ≡ xs
-    append_nil [] = refl
-    append_nil (x ∷ xs) = ap (λ ys. x ∷ ys) (append_nil xs)
+unique : (f : Bytes → ChatKey) (earlier ts : List Cites) → KeepRule f earlier ts
+    → chats_after (table f earlier) ts ≡ table f (earlier ++ ts)
+unique f earlier [] s = rw append-nil refl
 unique f earlier (t ∷ ts) s =
     let same : chat_among (table f earlier) t ≡ f t.spot.id = ap (chat_from t) (first_some-table f earlier t.candidates) ∙ sym s.0 in
     ap (λ c. chats_after (table f earlier ++ (t.spot.id, c) ∷ []) ts) same
@@ -113,7 +116,8 @@ chats_unique f ts s = unique f [] ts s
 -- ---- the equation of the rule
 
 -- an id is known just where it was or where one has it
-is_some-chat_at : (known : Known) (ts : List Cites) (id : Bytes) → is_some (chat_at (chats_after known ts) id) ≡ (is_some (chat_at known id) || has_cites ts id)
+is_some-chat_at : (known : Known) (ts : List Cites) (id : Bytes)
+    → is_some (chat_at (chats_after known ts) id) ≡ (is_some (chat_at known id) || has_cites ts id)
 is_some-chat_at known [] id = or_false (is_some (chat_at known id))
   where
     or_false : (b : Bool) → b ≡ (b || false)
@@ -124,12 +128,14 @@ is_some-chat_at known (t ∷ ts) id =
     is_some-chat_at (known ++ one) ts id ∙ ap (λ o. is_some o || has_cites ts id) (chat_at-append known one id)
     ∙ joined (chat_at known id) (bytes_eq id t.spot.id) (t.spot.id, chat_among known t) (has_cites ts id)
   where
-    joined : (o : Option ChatKey) (b : Bool) (k : Bytes × ChatKey) (rest : Bool) → (is_some (option_or o (option_map (λ e. e.1) (cond b (Some k) None))) || rest) ≡ (is_some o || (b || rest))
+    joined : (o : Option ChatKey) (b : Bool) (k : Bytes × ChatKey) (rest : Bool)
+        → (is_some (option_or o (option_map (λ e. e.1) (cond b (Some k) None))) || rest) ≡ (is_some o || (b || rest))
     joined None true k rest = refl
     joined None false k rest = refl
     joined (Some x) b k rest = refl
 
-first_some-find : {X Y : Type 0} (f : X → Option Y) (xs : List X) → first_some f xs ≡ option_and_then f (find (λ x. is_some (f x)) xs)
+first_some-find : {X Y : Type 0} (f : X → Option Y) (xs : List X)
+    → first_some f xs ≡ option_and_then f (find (λ x. is_some (f x)) xs)
 first_some-find f [] = refl
 first_some-find f (x ∷ xs) =
     elim (f x) as (λ o. f x ≡ o → option_or o (first_some f xs) ≡ option_and_then f (cond (is_some o) (Some x) (find (λ x. is_some (f x)) xs))) [
@@ -150,7 +156,9 @@ DistinctIds-right [] ys d = d
 DistinctIds-right (x ∷ xs) ys d = DistinctIds-right xs ys d.1
 
 -- what is found at the first known candidate is found there in the end
-parent_kept : (known : Known) (ts : List Cites) (id : Option Bytes) → ((p : Bytes) → id ≡ Some p → IsTrue (is_some (chat_at known p))) → option_and_then (chat_at known) id ≡ option_and_then (chat_at (chats_after known ts)) id
+parent_kept : (known : Known) (ts : List Cites) (id : Option Bytes)
+    → ((p : Bytes) → id ≡ Some p → IsTrue (is_some (chat_at known p)))
+    → option_and_then (chat_at known) id ≡ option_and_then (chat_at (chats_after known ts)) id
 parent_kept known ts None h = refl
 parent_kept known ts (Some p) h = by (chat_at known p) refl (h p refl)
   where
@@ -189,7 +197,8 @@ chat_by_parent earlier t later d =
 
 -- ---- the chats of a mailbox
 
-same_cites : (me id : Bytes) (ts : List Mail) → AllByRecursion (λ t. bytes_eq id t.card.id ≡ false) ts → has_cites (map (cites_of me) ts) id ≡ false
+same_cites : (me id : Bytes) (ts : List Mail) → AllByRecursion (λ t. bytes_eq id t.card.id ≡ false) ts
+    → has_cites (map (cites_of me) ts) id ≡ false
 same_cites me id [] a = refl
 same_cites me id (t ∷ ts) a = rw a.0 (same_cites me id ts a.1)
 
@@ -199,24 +208,26 @@ distinct_cites me [] d = tt
 distinct_cites me (t ∷ ts) d = (same_cites me t.card.id ts d.0, distinct_cites me ts d.1)
 
 cites_once : (m : Mailbox) → DistinctIds (cites m)
-cites_once m = distinct_cites m.me (contents m) (IsDistinct-filter same_id (λ t. is_content (kind_of t.card)) (present m) (IsDistinct-firsts same_id (mails m)))
+cites_once m =
+    distinct_cites m.me (contents m) (IsDistinct-filter same_id (λ t. is_content (kind_of t.card)) (present m) (IsDistinct-firsts same_id (mails m)))
 
-pub chats_keep : (m : Mailbox) (earlier : List Cites) (t : Cites) (later : List Cites) → cites m ≡ earlier ++ t ∷ later → chat m t.spot.id ≡ Some (chat_from t (parent_among earlier t >>= chat m))
+pub chats_keep : (m : Mailbox) (earlier : List Cites) (t : Cites) (later : List Cites) → cites m ≡ earlier ++ t ∷ later
+    → chat m t.spot.id ≡ Some (chat_from t (parent_among earlier t >>= chat m))
 chats_keep m earlier t later e =
     subst (λ ts. chat_at (chats_of ts) t.spot.id ≡ Some (chat_from t (option_and_then (chat_at (chats_of ts)) (parent_among earlier t)))) (sym e)
     (chat_by_parent earlier t later (subst DistinctIds e (cites_once m)))
 
-pub chats_alone : (m : Mailbox) (chat_of : Bytes → ChatKey) → KeepRule chat_of [] (cites m) → (id : Bytes) → chat m id ≡ (if has_cites (cites m) id then Some (chat_of id) else None)
-chats_alone m chat_of keeps id = ap (λ known. chat_at known id) (chats_unique chat_of (cites m) keeps) ∙ chat_at-table chat_of (cites m) id
+pub chats_alone : (m : Mailbox) (chat_of : Bytes → ChatKey) → KeepRule chat_of [] (cites m) → (id : Bytes)
+    → chat m id ≡ (if has_cites (cites m) id then Some (chat_of id) else None)
+chats_alone m chat_of keeps id =
+    ap (λ known. chat_at known id) (chats_unique chat_of (cites m) keeps)
+    ∙ chat_at-table chat_of (cites m) id
 
 -- ---- which chats there are
 
-pub ids-chats_after : (known : Known) (ts : List Cites) → map (λ k. k.0) (chats_after known ts) ≡ map (λ k. k.0) known ++ map (λ t. t.spot.id) ts
-ids-chats_after known [] = sym (append_nil (map (λ k. k.0) known))
-  where
-    append_nil : (xs : List Bytes) → xs ++ [] ≡ xs
-    append_nil [] = refl
-    append_nil (x ∷ xs) = ap (λ ys. x ∷ ys) (append_nil xs)
+pub ids-chats_after : (known : Known) (ts : List Cites)
+    → map (λ k. k.0) (chats_after known ts) ≡ map (λ k. k.0) known ++ map (λ t. t.spot.id) ts
+ids-chats_after known [] = sym (append-nil (map (λ k. k.0) known))
 ids-chats_after known (t ∷ ts) =
     let one = (t.spot.id, chat_among known t) ∷ [] in
     ids-chats_after (known ++ one) ts

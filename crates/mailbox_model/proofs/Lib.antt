@@ -7,6 +7,8 @@ pub mod ChatLaws
 pub mod RuleLaws
 pub mod PresentLaws
 pub mod ListLaws
+pub mod FrameLaws
 pub mod AnswerLaws
 mod WorkedCards
 mod Worked
+mod Edges

@@ -22,7 +22,7 @@ use Rattle.mailbox_model.specs.Chats.{Known, chat_at, chats, chat, is_chat, cite
 use Rattle.mailbox_model.specs.Pages.{keys, page_of, page}
 use Rattle.mailbox_model.specs.ChatList.{list, list_row, list_cmp, latest_cmp}
 use Rattle.mailbox_model.proofs.OrderLaws.{Rising, below_of, never_back, apart, second_Equal, sorted_from}
-use Rattle.mailbox_model.proofs.PutLaws.{None_of, All-put_in, Placed, Rising-put_in, find-firsts, list_any-found, IsDistinct-filter, IsDistinct-firsts}
+use Rattle.mailbox_model.proofs.PutLaws.{agree, None_of, All-put_in, Placed, Rising-put_in, find-firsts, list_any-found, IsDistinct-filter, IsDistinct-firsts}
 use Rattle.mailbox_model.proofs.PresentLaws.{permuted}
 use Rattle.mailbox_model.proofs.ChatLaws.{same_bytes, ids-chats_after}
 use Rattle.mailbox_model.proofs.MailLaws.{bytes_turn}
@@ -35,15 +35,11 @@ key_same a b e =
     sym (key_at-parts a) ∙ (λ i. key_at (eqb-true (key_rank a) (key_rank b) parts.0 i) ((bytes_decides (key_bytes a) (key_bytes b)).0 parts.1 i)) ∙ key_at-parts b
 
 key_self : (a : ChatKey) → key_eq a a ≡ true
-key_self a = and_from (key_rank a == key_rank a) (bytes_eq (key_bytes a) (key_bytes a)) (eq-eqb (key_rank a) (key_rank a) refl) (same_bytes (key_bytes a))
-
-both : (b c : Bool) → (b ≡ true → c ≡ true) → (c ≡ true → b ≡ true) → b ≡ c
-both true c f g = sym (f refl)
-both false true f g = g refl
-both false false f g = refl
+key_self a =
+    and_from (key_rank a == key_rank a) (bytes_eq (key_bytes a) (key_bytes a)) (eq-eqb (key_rank a) (key_rank a) refl) (same_bytes (key_bytes a))
 
 key_turn : (a b : ChatKey) → key_eq a b ≡ key_eq b a
-key_turn a b = both (key_eq a b) (key_eq b a) (back a b) (back b a)
+key_turn a b = agree (key_eq a b) (key_eq b a) (back a b) (back b a)
   where
     back : (a b : ChatKey) → key_eq a b ≡ true → key_eq b a ≡ true
     back a b e = subst (λ c. key_eq c a ≡ true) (key_same a b e) (key_self a)
@@ -51,26 +47,32 @@ key_turn a b = both (key_eq a b) (key_eq b a) (back a b) (back b a)
 -- ---- the order of rows
 
 list_total : IsTotalOrder list_cmp
-list_total = then_total (on_total (λ (r : ListRow). r.time) (back_total (options_total nat_cmp_total))) (on_total (λ (r : ListRow). r.key) keys_total)
+list_total =
+    then_total (on_total (λ (r : ListRow). r.time) (back_total (options_total nat_cmp_total))) (on_total (λ (r : ListRow). r.key) keys_total)
 
 abbrev same_key : ListRow → ListRow → Bool
 same_key a b = key_eq a.key b.key
 
 no_tie : (a b : ListRow) → same_key a b ≡ false → list_cmp a b ≢ Equal
-no_tie a b h k = both_ways (same_key a b) h (subst (λ c. key_eq a.key c ≡ true) (keys_exact a.key b.key (second_Equal (latest_cmp a.time b.time) (key_cmp a.key b.key) k)) (key_self a.key))
+no_tie a b h k =
+    both_ways (same_key a b) h (subst (λ c. key_eq a.key c ≡ true) (keys_exact a.key b.key (second_Equal (latest_cmp a.time b.time) (key_cmp a.key b.key) k)) (key_self a.key))
 
-placed : (x : ListRow) (zs : List ListRow) → None_of (same_key x) zs → Placed list_cmp (below_of list_cmp list_total) (never_back list_cmp list_total) x zs
+placed : (x : ListRow) (zs : List ListRow) → None_of (same_key x) zs
+    → Placed list_cmp (below_of list_cmp list_total) (never_back list_cmp list_total) x zs
 placed x [] n = tt
 placed x (z ∷ zs) n = (apart list_cmp list_total x z (no_tie x z n.0), placed x zs n.1)
 
 -- rows that differ in their keys, put in one by one
-rising_from : (zs xs : List ListRow) → IsDistinct same_key xs → AllByRecursion (λ x. None_of (same_key x) zs) xs → Rising list_cmp zs → Rising list_cmp (fold (λ sorted x. put_in list_cmp x sorted) zs xs)
+rising_from : (zs xs : List ListRow) → IsDistinct same_key xs → AllByRecursion (λ x. None_of (same_key x) zs) xs
+    → Rising list_cmp zs → Rising list_cmp (fold (λ sorted x. put_in list_cmp x sorted) zs xs)
 unfolding IsDistinct
 rising_from zs [] d n r = r
 rising_from zs (x ∷ xs) d n r =
     rising_from (put_in list_cmp x zs) xs d.1 (still xs d.0 n.1) (Rising-put_in list_cmp (below_of list_cmp list_total) (never_back list_cmp list_total) x zs (placed x zs n.0) r)
   where
-    still : (ys : List ListRow) → AllByRecursion (λ y. same_key x y ≡ false) ys → AllByRecursion (λ y. None_of (same_key y) zs) ys → AllByRecursion (λ y. None_of (same_key y) (put_in list_cmp x zs)) ys
+    still : (ys : List ListRow) → AllByRecursion (λ y. same_key x y ≡ false) ys
+        → AllByRecursion (λ y. None_of (same_key y) zs) ys
+        → AllByRecursion (λ y. None_of (same_key y) (put_in list_cmp x zs)) ys
     still [] a b = tt
     still (y ∷ ys) a b = (All-put_in list_cmp (λ z. same_key y z ≡ false) x zs (key_turn y.key x.key ∙ a.0) b.0, still ys a.1 b.1)
 
@@ -79,7 +81,8 @@ unfolding IsDistinct
 distinct_rows m [] d = tt
 distinct_rows m (k ∷ ks) d = (others ks d.0, distinct_rows m ks d.1)
   where
-    others : (ls : List ChatKey) → AllByRecursion (λ l. key_eq k l ≡ false) ls → AllByRecursion (λ row. same_key (list_row m k) row ≡ false) (map (list_row m) ls)
+    others : (ls : List ChatKey) → AllByRecursion (λ l. key_eq k l ≡ false) ls
+        → AllByRecursion (λ row. same_key (list_row m k) row ≡ false) (map (list_row m) ls)
     others [] a = tt
     others (l ∷ ls) a = (a.0, others ls a.1)
 
@@ -109,11 +112,13 @@ unfolding IsDistinct
 each_found [] d = tt
 each_found (k ∷ ks) d = (rw (same_bytes k.0, find) refl, behind ks d.0 (each_found ks d.1))
   where
-    behind : (js : Known) → AllByRecursion (λ id. bytes_eq k.0 id ≡ false) (map (λ j. j.0) js) → AllByRecursion (λ j. chat_at ks j.0 ≡ Some j.1) js → AllByRecursion (λ j. chat_at (k ∷ ks) j.0 ≡ Some j.1) js
+    behind : (js : Known) → AllByRecursion (λ id. bytes_eq k.0 id ≡ false) (map (λ j. j.0) js)
+        → AllByRecursion (λ j. chat_at ks j.0 ≡ Some j.1) js → AllByRecursion (λ j. chat_at (k ∷ ks) j.0 ≡ Some j.1) js
     behind [] a b = tt
     behind (j ∷ js) a b = (rw (bytes_turn j.0 k.0 ∙ a.0, find) b.0, behind js a.1 b.1)
 
-any_known : (key : ChatKey) (whole ks : Known) → AllByRecursion (λ k. chat_at whole k.0 ≡ Some k.1) ks → list_any (λ k. key_eq key k.1) ks ≡ list_any (λ id. is_chat key (chat_at whole id)) (map (λ k. k.0) ks)
+any_known : (key : ChatKey) (whole ks : Known) → AllByRecursion (λ k. chat_at whole k.0 ≡ Some k.1) ks
+    → list_any (λ k. key_eq key k.1) ks ≡ list_any (λ id. is_chat key (chat_at whole id)) (map (λ k. k.0) ks)
 any_known key whole [] a = refl
 any_known key whole (k ∷ ks) a = λ i. is_chat key (sym a.0 i) || any_known key whole ks a.1 i
 
@@ -134,7 +139,8 @@ unfolding IsDistinct
 distinct_ids [] d = tt
 distinct_ids (t ∷ ts) d = (others ts d.0, distinct_ids ts d.1)
   where
-    others : (us : List Mail) → AllByRecursion (λ u. same_id t u ≡ false) us → AllByRecursion (λ id. bytes_eq t.card.id id ≡ false) (map (λ u. u.card.id) us)
+    others : (us : List Mail) → AllByRecursion (λ u. same_id t u ≡ false) us
+        → AllByRecursion (λ id. bytes_eq t.card.id id ≡ false) (map (λ u. u.card.id) us)
     others [] a = tt
     others (u ∷ us) a = (a.0, others us a.1)
 
@@ -142,9 +148,10 @@ ids_known : (m : Mailbox) → map (λ k. k.0) (chats m) ≡ map (λ t. t.card.id
 ids_known m = ids-chats_after [] (cites m) ∙ ids_of m.me (contents m)
 
 once_known : (m : Mailbox) → OnceKnown (chats m)
-once_known m = subst (IsDistinct bytes_eq) (sym (ids_known m)) (distinct_ids (contents m) (IsDistinct-filter same_id (λ t. is_content (kind_of t.card)) (present m) (IsDistinct-firsts same_id (mails m))))
+once_known m =
+    subst (IsDistinct bytes_eq) (sym (ids_known m)) (distinct_ids (contents m) (IsDistinct-filter same_id (λ t. is_content (kind_of t.card)) (present m) (IsDistinct-firsts same_id (mails m))))
 
-keys_are : (m : Mailbox) (key : ChatKey) → list_any (key_eq key) (keys m) ≡ has_some (chat_mails m key)
+pub keys_are : (m : Mailbox) (key : ChatKey) → list_any (key_eq key) (keys m) ≡ has_some (chat_mails m key)
 keys_are m key =
     let all = map (λ k. k.1) (chats m) in
     list_any-found (key_eq key) (keys m)
@@ -156,7 +163,8 @@ keys_are m key =
     ∙ any_map (λ id. is_chat key (chat m id)) (λ t. t.card.id) (contents m)
     ∙ some_filter (λ t. is_chat key (chat m t.card.id)) (contents m)
 
-pub rows_are : (m : Mailbox) (key : ChatKey) → list_any (λ row. key_eq key row.key) (list m).rows ≡ has_some (chat_mails m key)
+pub rows_are : (m : Mailbox) (key : ChatKey)
+    → list_any (λ row. key_eq key row.key) (list m).rows ≡ has_some (chat_mails m key)
 rows_are m key =
     sym (list_any-IsPermutation (λ row. key_eq key row.key) (map (list_row m) (keys m)) (list m).rows (rows_all m))
     ∙ any_map (λ row. key_eq key row.key) (list_row m) (keys m)

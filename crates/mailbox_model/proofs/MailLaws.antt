@@ -1,5 +1,5 @@
 -- The mails of a mailbox in mail order: they rise, and what each change does to them.
-use Rattle.std.proofs.Common.{◌≡◌, ◌≢◌, refl, sym, ap, ◌∙◌, ℕ, ◌+◌, ◌<◌, ◌≤◌, Bool, true, false, not, cond, Option, Some, None, Result, Ok, Err, List, [], ◌∷◌, ◌++◌, map, arith}
+use Rattle.std.proofs.Common.{◌≡◌, ◌≢◌, refl, sym, ap, ◌∙◌, ℕ, ◌+◌, ◌<◌, ◌≤◌, Bool, true, false, not, cond, Option, Some, None, Result, Ok, Err, List, [], ◌∷◌, map, arith}
 use Rattle.std.specs.Prelude.{if◌then◌else◌, fold, filter_map, filter, ◌==◌}
 use Rattle.std.specs.List.{AllByRecursion, IsDistinct, cons_option}
 use Rattle.std.specs.Option.{option_or}
@@ -11,6 +11,7 @@ use Rattle.std.specs.Cmp.Lexicographic.{slice_cmp, bytes_decides}
 use Rattle.std.proofs.lemmas.Cmp.{on_total}
 use Rattle.std.proofs.lemmas.Bool.{eq-eqb, ne_eqb, eqb-true}
 use Rattle.std.proofs.lemmas.Map.Lookups.{exact_unsigned}
+use Rattle.std.proofs.lemmas.List.{append-nil}
 use Rattle.std.proofs.lemmas.List.Elements.{filter_map-append}
 use Rattle.std.proofs.lemmas.List.Sums.{fold_push}
 use Rattle.card_type.specs.declared.card.Card.{Card}
@@ -23,7 +24,7 @@ use Rattle.mailbox_model.specs.Mailbox.{Mailbox, Item, after, arrival, has_uid, 
 use Rattle.mailbox_model.specs.Present.{Mail, mail_with, mail_by, mail_of, spot, mail_cmp, mails, same_id}
 use Rattle.mailbox_model.specs.Turns.{arriving, has_mail_uid, seen_at}
 use Rattle.mailbox_model.proofs.OrderLaws.{below_of, never_back, apart, second_Equal, Rising, IsAlike, IsBelow, filter-insert_kept, filter-insert_dropped}
-use Rattle.mailbox_model.proofs.PutLaws.{Placed, Rising-put_in, None_of, All-put_in, IsDistinct-put_in}
+use Rattle.mailbox_model.proofs.PutLaws.{agree, Placed, Rising-put_in, None_of, All-put_in, IsDistinct-put_in}
 
 -- ---- mail order is a strict order, and mails of one id are alike
 
@@ -39,19 +40,15 @@ is_below = below_of mail_cmp order
 pub is_never_back : (x y : Mail) → earlier x y ≡ true → earlier y x ≡ false
 is_never_back = never_back mail_cmp order
 
-both : (b c : Bool) → (b ≡ true → c ≡ true) → (c ≡ true → b ≡ true) → b ≡ c
-both true c f g = sym (f refl)
-both false true f g = g refl
-both false false f g = refl
-
 pub bytes_turn : (x y : Bytes) → bytes_eq x y ≡ bytes_eq y x
-bytes_turn x y = both (bytes_eq x y) (bytes_eq y x) (yes x y) (yes y x)
+bytes_turn x y = agree (bytes_eq x y) (bytes_eq y x) (yes x y) (yes y x)
   where
     yes : (x y : Bytes) → bytes_eq x y ≡ true → bytes_eq y x ≡ true
     yes x y e = (bytes_decides y x).1 (sym ((bytes_decides x y).0 e))
 
 pub is_alike : IsAlike same_id
-is_alike = record { turn = λ x y. bytes_turn x.card.id y.card.id; alike = λ x y z e. ap (λ id. bytes_eq id z.card.id) ((bytes_decides x.card.id y.card.id).0 e) }
+is_alike =
+    record { turn = λ x y. bytes_turn x.card.id y.card.id; alike = λ x y z e. ap (λ id. bytes_eq id z.card.id) ((bytes_decides x.card.id y.card.id).0 e) }
 
 abbrev pub same_uid : Mail → Mail → Bool
 same_uid a b = a.uid == b.uid
@@ -60,7 +57,7 @@ pub uid_alike : IsAlike same_uid
 uid_alike = record { turn = λ x y. turn x.uid y.uid; alike = λ x y z e. ap (λ n. n == z.uid) (eqb-true x.uid y.uid e) }
   where
     turn : (a b : ℕ) → (a == b) ≡ (b == a)
-    turn a b = both (a == b) (b == a) (λ e. eq-eqb b a (sym (eqb-true a b e))) (λ e. eq-eqb a b (sym (eqb-true b a e)))
+    turn a b = agree (a == b) (b == a) (λ e. eq-eqb b a (sym (eqb-true a b e))) (λ e. eq-eqb a b (sym (eqb-true b a e)))
 
 -- ---- mails are put in one by one, by rising uids
 
@@ -100,7 +97,8 @@ no_mails : (bound : ℕ) → IsLine bound []
 unfolding IsDistinct
 no_mails bound = record { rising = tt; once = tt; under = tt }
 
-line_with : (bound : ℕ) (y : Mail) (zs : List Mail) → bound ≤ y.uid → IsLine bound zs → IsLine (y.uid + 1) (put_in mail_cmp y zs)
+line_with : (bound : ℕ) (y : Mail) (zs : List Mail) → bound ≤ y.uid → IsLine bound zs
+    → IsLine (y.uid + 1) (put_in mail_cmp y zs)
 line_with bound y zs h line =
     let low : AllUnder y.uid zs = AllUnder-more bound y.uid zs h line.under in
     record {
@@ -110,9 +108,11 @@ line_with bound y zs h line =
     }
 
 line_more : (low more : ℕ) (zs : List Mail) → low ≤ more → IsLine low zs → IsLine more zs
-line_more low more zs h line = record { rising = line.rising; once = line.once; under = AllUnder-more low more zs h line.under }
+line_more low more zs h line =
+    record { rising = line.rising; once = line.once; under = AllUnder-more low more zs h line.under }
 
-line_from : (low next : ℕ) (zs : List Mail) (items : List Item) → RiseBelow low items next → IsLine low zs → IsLine next (put_all zs (filter_map mail_of items))
+line_from : (low next : ℕ) (zs : List Mail) (items : List Item) → RiseBelow low items next → IsLine low zs
+    → IsLine next (put_all zs (filter_map mail_of items))
 line_from low next zs [] u line = line_more low next zs u line
 line_from low next zs (item ∷ items) u line =
     elim item.mail as (λ mail. IsLine next (put_all zs (cons_option (mail_by item mail) (filter_map mail_of items)))) [
@@ -131,11 +131,8 @@ mails-arrive m card =
     ∙ fold_push (λ sorted y. put_in mail_cmp y sorted) [] (filter_map mail_of m.items) (arriving m card)
 
 pub mails-fault : (m : Mailbox) (fault : Fault) → mails (after m (ArriveFault fault)) ≡ mails m
-mails-fault m fault = ap (sorted_by mail_cmp) (filter_map-append mail_of m.items (arrival m (Err fault) ∷ []) ∙ append_nil (filter_map mail_of m.items))
-  where
-    append_nil : (xs : List Mail) → xs ++ [] ≡ xs
-    append_nil [] = refl
-    append_nil (x ∷ xs) = ap (λ ys. x ∷ ys) (append_nil xs)
+mails-fault m fault =
+    ap (sorted_by mail_cmp) (filter_map-append mail_of m.items (arrival m (Err fault) ∷ []) ∙ append-nil (filter_map mail_of m.items))
 
 -- ---- an expunge
 
@@ -160,13 +157,18 @@ expunged_from uid low next zs (item ∷ items) u line =
     ] ∙ ap (λ ys. put_all (but_uid uid zs) ys) (whole (not (has_uid uid item)))
   where
     rest : Result Card Fault → Bool → List Mail
-    rest mail b = cond b (cons_option (mail_by item mail) (filter_map mail_of (left uid items))) (filter_map mail_of (left uid items))
+    rest mail b =
+        cond b (cons_option (mail_by item mail) (filter_map mail_of (left uid items))) (filter_map mail_of (left uid items))
 
-    by : (b : Bool) → not (has_uid uid item) ≡ b → (card : Card) → put_all (but_uid uid (put_in mail_cmp (mail_with item card) zs)) (filter_map mail_of (left uid items)) ≡ put_all (but_uid uid zs) (rest (Ok card) b)
-    by true e card = ap (λ s. put_all s (filter_map mail_of (left uid items))) (filter-insert_kept mail_cmp is_below.trans (λ z. not (has_mail_uid uid z)) (mail_with item card) zs e line.rising)
-    by false e card = ap (λ s. put_all s (filter_map mail_of (left uid items))) (filter-insert_dropped mail_cmp (λ z. not (has_mail_uid uid z)) (mail_with item card) zs e)
+    by : (b : Bool) → not (has_uid uid item) ≡ b → (card : Card)
+        → put_all (but_uid uid (put_in mail_cmp (mail_with item card) zs)) (filter_map mail_of (left uid items)) ≡ put_all (but_uid uid zs) (rest (Ok card) b)
+    by true e card =
+        ap (λ s. put_all s (filter_map mail_of (left uid items))) (filter-insert_kept mail_cmp is_below.trans (λ z. not (has_mail_uid uid z)) (mail_with item card) zs e line.rising)
+    by false e card =
+        ap (λ s. put_all s (filter_map mail_of (left uid items))) (filter-insert_dropped mail_cmp (λ z. not (has_mail_uid uid z)) (mail_with item card) zs e)
 
-    skip : (fault : Fault) (b : Bool) → put_all (but_uid uid zs) (filter_map mail_of (left uid items)) ≡ put_all (but_uid uid zs) (rest (Err fault) b)
+    skip : (fault : Fault) (b : Bool)
+        → put_all (but_uid uid zs) (filter_map mail_of (left uid items)) ≡ put_all (but_uid uid zs) (rest (Err fault) b)
     skip fault true = refl
     skip fault false = refl
 
@@ -174,24 +176,29 @@ expunged_from uid low next zs (item ∷ items) u line =
     whole true = refl
     whole false = refl
 
-pub mails-expunge : (m : Mailbox) (uid : ℕ) → RiseBelow 1 m.items m.next_uid → mails (after m (Expunge uid)) ≡ but_uid uid (mails m)
+pub mails-expunge : (m : Mailbox) (uid : ℕ) → RiseBelow 1 m.items m.next_uid
+    → mails (after m (Expunge uid)) ≡ but_uid uid (mails m)
 mails-expunge m uid u = sym (expunged_from uid 1 m.next_uid [] m.items u (no_mails 1))
 
 -- ---- a seen mark
 
-put_in-seen : (uid now : ℕ) (y : Mail) (zs : List Mail) → map (seen_at uid now) (put_in mail_cmp y zs) ≡ put_in mail_cmp (seen_at uid now y) (map (seen_at uid now) zs)
+put_in-seen : (uid now : ℕ) (y : Mail) (zs : List Mail)
+    → map (seen_at uid now) (put_in mail_cmp y zs) ≡ put_in mail_cmp (seen_at uid now y) (map (seen_at uid now) zs)
 put_in-seen uid now y [] = refl
 put_in-seen uid now y (z ∷ zs) =
     turn (earlier y z) _ _ (put_in-seen uid now y zs) ∙ ap (λ o. if is_lt o then seen_at uid now y ∷ seen_at uid now z ∷ map (seen_at uid now) zs else seen_at uid now z ∷ put_in mail_cmp (seen_at uid now y) (map (seen_at uid now) zs)) (λ i. spot_cmp (spots y i) (spots z i))
   where
     spots : (t : Mail) → spot t ≡ spot (seen_at uid now t)
-    spots t = elim (has_mail_uid uid t) as (λ b. spot t ≡ spot (if b then record t { seen = option_or t.seen (Some now) } else t)) [ true ↦ refl | false ↦ refl ]
+    spots t =
+        elim (has_mail_uid uid t) as (λ b. spot t ≡ spot (if b then record t { seen = option_or t.seen (Some now) } else t)) [ true ↦ refl | false ↦ refl ]
 
-    turn : (b : Bool) (us vs : List Mail) → map (seen_at uid now) us ≡ vs → map (seen_at uid now) (if b then y ∷ z ∷ zs else z ∷ us) ≡ (if b then seen_at uid now y ∷ seen_at uid now z ∷ map (seen_at uid now) zs else seen_at uid now z ∷ vs)
+    turn : (b : Bool) (us vs : List Mail) → map (seen_at uid now) us ≡ vs
+        → map (seen_at uid now) (if b then y ∷ z ∷ zs else z ∷ us) ≡ (if b then seen_at uid now y ∷ seen_at uid now z ∷ map (seen_at uid now) zs else seen_at uid now z ∷ vs)
     turn true us vs h = refl
     turn false us vs h = ap (λ ws. seen_at uid now z ∷ ws) h
 
-seen_from : (uid now : ℕ) (zs : List Mail) (items : List Item) → map (seen_at uid now) (put_all zs (filter_map mail_of items)) ≡ put_all (map (seen_at uid now) zs) (filter_map mail_of (map (marked uid now) items))
+seen_from : (uid now : ℕ) (zs : List Mail) (items : List Item)
+    → map (seen_at uid now) (put_all zs (filter_map mail_of items)) ≡ put_all (map (seen_at uid now) zs) (filter_map mail_of (map (marked uid now) items))
 seen_from uid now zs [] = refl
 seen_from uid now zs (item ∷ items) =
     elim item.mail as (λ mail. map (seen_at uid now) (put_all zs (cons_option (mail_by item mail) (filter_map mail_of items))) ≡ put_all (map (seen_at uid now) zs) (cons_option (seen_by mail) (filter_map mail_of (map (marked uid now) items)))) [

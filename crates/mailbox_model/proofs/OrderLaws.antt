@@ -41,7 +41,8 @@ module _ {X : Type 0} (cmp : X → X → Ordering) where
     Above-through x y (z ∷ zs) h a = (trans x y z h a.0, Above-through x y zs h a.1)
 
     -- a filter and an insert
-    pub filter-insert_kept : (p : X → Bool) (x : X) (ys : List X) → p x ≡ true → Rising ys → filter p (put_in cmp x ys) ≡ put_in cmp x (filter p ys)
+    pub filter-insert_kept : (p : X → Bool) (x : X) (ys : List X) → p x ≡ true → Rising ys
+        → filter p (put_in cmp x ys) ≡ put_in cmp x (filter p ys)
     filter-insert_kept p x [] h r = rw h refl
     filter-insert_kept p x (y ∷ ys) h r =
         elim (is_lt (cmp x y)) as (λ b. is_lt (cmp x y) ≡ b → filter p (if b then x ∷ y ∷ ys else y ∷ put_in cmp x ys) ≡ put_in cmp x (filter p (y ∷ ys))) [
@@ -60,13 +61,17 @@ module _ {X : Type 0} (cmp : X → X → Ordering) where
         | false ↦ ap (λ zs. cond (p y) (y ∷ zs) zs) (filter-insert_dropped p x ys h)
       ]
 
-filter-cond : {X : Type 0} (p : X → Bool) (c : Bool) (x : X) (xs : List X) → filter p (cond c (x ∷ xs) xs) ≡ cond c (cond (p x) (x ∷ filter p xs) (filter p xs)) (filter p xs)
+filter-cond : {X : Type 0} (p : X → Bool) (c : Bool) (x : X) (xs : List X)
+    → filter p (cond c (x ∷ xs) xs) ≡ cond c (cond (p x) (x ∷ filter p xs) (filter p xs)) (filter p xs)
 filter-cond p true x xs = refl
 filter-cond p false x xs = refl
 
 filter-commute : {X : Type 0} (p q : X → Bool) (xs : List X) → filter p (filter q xs) ≡ filter q (filter p xs)
 filter-commute p q [] = refl
-filter-commute {X} p q (x ∷ xs) = filter-cond p (q x) x (filter q xs) ∙ turn (p x) (q x) (filter-commute p q xs) ∙ sym (filter-cond q (p x) x (filter p xs))
+filter-commute {X} p q (x ∷ xs) =
+    filter-cond p (q x) x (filter q xs)
+    ∙ turn (p x) (q x) (filter-commute p q xs)
+    ∙ sym (filter-cond q (p x) x (filter p xs))
   where
     turn : (b c : Bool) {us vs : List X} → us ≡ vs → cond c (cond b (x ∷ us) us) us ≡ cond b (cond c (x ∷ vs) vs) vs
     turn true true e = ap (λ zs. x ∷ zs) e
@@ -113,7 +118,8 @@ module _ {X : Type 0} (same : X → X → Bool) (cmp : X → X → Ordering) whe
 
   module _ (alike : IsAlike same) (order : IsBelow cmp) where
     -- The first of each that are alike, after an insert: as before where one that is alike stands earlier, else with y in the place of the one that was there
-    pub firsts-insert : (y : X) (zs : List X) → Rising cmp zs → firsts same (put_in cmp y zs) ≡ (if is_behind y zs then firsts same zs else put_in cmp y (unlike y (firsts same zs)))
+    pub firsts-insert : (y : X) (zs : List X) → Rising cmp zs
+        → firsts same (put_in cmp y zs) ≡ (if is_behind y zs then firsts same zs else put_in cmp y (unlike y (firsts same zs)))
     firsts-insert y [] r = refl
     firsts-insert y (z ∷ zs) r =
         elim (is_lt (cmp y z)) as (λ b. is_lt (cmp y z) ≡ b → firsts same (if b then y ∷ z ∷ zs else z ∷ put_in cmp y zs) ≡ (if (same y z && not b) || is_behind y zs then firsts same (z ∷ zs) else put_in cmp y (unlike y (firsts same (z ∷ zs))))) [
@@ -127,13 +133,15 @@ module _ {X : Type 0} (same : X → X → Bool) (cmp : X → X → Ordering) whe
         above : is_lt (cmp y z) ≡ true → Above cmp y (z ∷ zs)
         above e = (e, Above-through cmp order.trans y z zs e r.0)
 
-        before : is_lt (cmp y z) ≡ true → firsts same (y ∷ z ∷ zs) ≡ (if (same y z && false) || is_behind y zs then firsts same (z ∷ zs) else put_in cmp y (unlike y (firsts same (z ∷ zs))))
+        before : is_lt (cmp y z) ≡ true
+            → firsts same (y ∷ z ∷ zs) ≡ (if (same y z && false) || is_behind y zs then firsts same (z ∷ zs) else put_in cmp y (unlike y (firsts same (z ∷ zs))))
         before e =
             let none : ((same y z && false) || is_behind y zs) ≡ false = elim (same y z) as (λ b. ((b && false) || is_behind y zs) ≡ false) [ true ↦ not_behind y zs (above e).1 | false ↦ not_behind y zs (above e).1 ] in
             rw none (sym (insert-above cmp y (unlike y (firsts same (z ∷ zs))) (Above-filter cmp y (λ z. not (same y z)) (firsts same (z ∷ zs)) (Above-firsts y (z ∷ zs) (above e)))))
 
         -- z and y are alike: y is dropped
-        dropped : same y z ≡ true → (b : Bool) → unlike z (if b then firsts same zs else put_in cmp y (unlike y (firsts same zs))) ≡ unlike z (firsts same zs)
+        dropped : same y z ≡ true → (b : Bool)
+            → unlike z (if b then firsts same zs else put_in cmp y (unlike y (firsts same zs))) ≡ unlike z (firsts same zs)
         dropped s true = refl
         dropped s false =
             filter-insert_dropped cmp (λ x. not (same z x)) y (unlike y (firsts same zs)) (ap not (sym (alike.turn y z) ∙ s))
@@ -141,7 +149,8 @@ module _ {X : Type 0} (same : X → X → Bool) (cmp : X → X → Ordering) whe
             ∙ filter-twice (λ x. not (same z x)) (firsts same zs)
 
         -- they are not: y goes on
-        kept : is_lt (cmp y z) ≡ false → same y z ≡ false → (b : Bool) → z ∷ unlike z (if b then firsts same zs else put_in cmp y (unlike y (firsts same zs))) ≡ (if b then firsts same (z ∷ zs) else put_in cmp y (unlike y (firsts same (z ∷ zs))))
+        kept : is_lt (cmp y z) ≡ false → same y z ≡ false → (b : Bool)
+            → z ∷ unlike z (if b then firsts same zs else put_in cmp y (unlike y (firsts same zs))) ≡ (if b then firsts same (z ∷ zs) else put_in cmp y (unlike y (firsts same (z ∷ zs))))
         kept e s true = refl
         kept e s false =
             ap (λ xs. z ∷ xs)
@@ -149,7 +158,9 @@ module _ {X : Type 0} (same : X → X → Bool) (cmp : X → X → Ordering) whe
             ∙ ap (put_in cmp y) (filter-commute (λ x. not (same z x)) (λ x. not (same y x)) (firsts same zs)))
             ∙ sym (rw s (rw e refl))
 
-        behind : firsts same (put_in cmp y zs) ≡ (if is_behind y zs then firsts same zs else put_in cmp y (unlike y (firsts same zs))) → is_lt (cmp y z) ≡ false → firsts same (z ∷ put_in cmp y zs) ≡ (if (same y z && true) || is_behind y zs then firsts same (z ∷ zs) else put_in cmp y (unlike y (firsts same (z ∷ zs))))
+        behind : firsts same (put_in cmp y zs) ≡ (if is_behind y zs then firsts same zs else put_in cmp y (unlike y (firsts same zs)))
+            → is_lt (cmp y z) ≡ false
+            → firsts same (z ∷ put_in cmp y zs) ≡ (if (same y z && true) || is_behind y zs then firsts same (z ∷ zs) else put_in cmp y (unlike y (firsts same (z ∷ zs))))
         behind ih e =
             ap (λ xs. z ∷ unlike z xs) ih
             ∙ elim (same y z) as (λ b. same y z ≡ b → z ∷ unlike z (if is_behind y zs then firsts same zs else put_in cmp y (unlike y (firsts same zs))) ≡ (if (b && true) || is_behind y zs then firsts same (z ∷ zs) else put_in cmp y (unlike y (firsts same (z ∷ zs))))) [

@@ -1,5 +1,5 @@
 -- The present cards: in mail order, each id once, and the ids of all cards.
-use Rattle.std.proofs.Common.{◌≡◌, refl, ap, subst, true, false, List, [], ◌∷◌, ◌++◌}
+use Rattle.std.proofs.Common.{◌≡◌, ap, subst, true, false, List, [], ◌∷◌, ◌++◌}
 use Rattle.std.specs.Prelude.{if◌then◌else◌, fold, filter_map}
 use Rattle.std.specs.List.{find, IsDistinct}
 use Rattle.std.specs.List.Sorted.{IsStrictlySortedBy, IsPermutation}
@@ -7,6 +7,7 @@ use Rattle.std.specs.Str.{bytes_eq}
 use Rattle.std.specs.declared.cmp.Ordering.{Ordering}
 use Rattle.std.specs.Ordering.{is_lt}
 use Rattle.std.specs.Cmp.Lexicographic.{bytes_decides}
+use Rattle.std.proofs.lemmas.List.{append-nil}
 use Rattle.std.proofs.lemmas.List.Sorted.{IsPermutation-refl, IsPermutation-cons, IsPermutation-trans, IsPermutation-middle, IsPermutation-sym, IsPermutation-append_right}
 use Rattle.mailbox_model.specs.Lists.{Bytes, put_in, sorted_by}
 use Rattle.mailbox_model.specs.Mailbox.{Mailbox, RiseBelow}
@@ -33,12 +34,8 @@ module _ {X : Type 0} (cmp : X → X → Ordering) where
       (IsPermutation-trans (x ∷ (xs ++ zs)) (xs ++ x ∷ zs) (xs ++ put_in cmp x zs) (IsPermutation-sym (xs ++ x ∷ zs) (x ∷ (xs ++ zs)) (IsPermutation-middle xs x zs)) (IsPermutation-append_right xs (x ∷ zs) (put_in cmp x zs) (permuted-put_in x zs)))
       (permuted_from (put_in cmp x zs) xs)
 
-  append_nil : (xs : List X) → xs ++ [] ≡ xs
-  append_nil [] = refl
-  append_nil (x ∷ xs) = ap (λ ys. x ∷ ys) (append_nil xs)
-
   pub permuted : (xs : List X) → IsPermutation xs (sorted_by cmp xs)
-  permuted xs = subst (λ ys. IsPermutation ys (sorted_by cmp xs)) (append_nil xs) (permuted_from [] xs)
+  permuted xs = subst (λ ys. IsPermutation ys (sorted_by cmp xs)) (append-nil xs) (permuted_from [] xs)
 
 -- ---- mail order
 
@@ -55,4 +52,5 @@ pub present_once : (m : Mailbox) → IsDistinct same_id (present m)
 present_once m = IsDistinct-firsts same_id (mails m)
 
 pub present_first : (m : Mailbox) (id : Bytes) → find (has_id id) (present m) ≡ find (has_id id) (mails m)
-present_first m id = find-firsts same_id (has_id id) (λ x y e. ap (bytes_eq id) ((bytes_decides x.card.id y.card.id).0 e)) (mails m)
+present_first m id =
+    find-firsts same_id (has_id id) (λ x y e. ap (bytes_eq id) ((bytes_decides x.card.id y.card.id).0 e)) (mails m)

@@ -8,6 +8,12 @@ use Rattle.std.proofs.lemmas.Bool.{both_ways}
 use Rattle.mailbox_model.specs.Lists.{put_in, firsts}
 use Rattle.mailbox_model.proofs.OrderLaws.{Above, Rising, Above-through, insert-above, IsAlike, IsBelow, is_behind}
 
+-- two tests that imply each other agree
+pub agree : (b c : Bool) → (b ≡ true → c ≡ true) → (c ≡ true → b ≡ true) → b ≡ c
+agree true c f g = sym (f refl)
+agree false true f g = g refl
+agree false false f g = refl
+
 -- ---- none passes
 
 abbrev pub None_of : {X : Type 0} → (X → Bool) → List X → Type 0
@@ -37,17 +43,20 @@ filter_none p (x ∷ xs) =
       | false ↦ λ e. (e, filter_none p xs)
     ] refl
 
-pub All-filter : {X : Type 0} (P : X → Type 0) (p : X → Bool) (xs : List X) → AllByRecursion P xs → AllByRecursion P (filter p xs)
+pub All-filter : {X : Type 0} (P : X → Type 0) (p : X → Bool) (xs : List X) → AllByRecursion P xs
+    → AllByRecursion P (filter p xs)
 All-filter P p [] a = tt
 All-filter P p (x ∷ xs) a = elim (p x) as (λ b. AllByRecursion P (cond b (x ∷ filter p xs) (filter p xs))) [ true ↦ (a.0, All-filter P p xs a.1) | false ↦ All-filter P p xs a.1 ]
 
-pub All-firsts : {X : Type 0} (P : X → Type 0) (same : X → X → Bool) (xs : List X) → AllByRecursion P xs → AllByRecursion P (firsts same xs)
+pub All-firsts : {X : Type 0} (P : X → Type 0) (same : X → X → Bool) (xs : List X) → AllByRecursion P xs
+    → AllByRecursion P (firsts same xs)
 All-firsts P same [] a = tt
 All-firsts P same (x ∷ xs) a = (a.0, All-filter P (λ y. not (same x y)) (firsts same xs) (All-firsts P same xs a.1))
 
 -- ---- what is found passes, and is one of the list
 
-pub found_all : {X : Type 0} (P : X → Type 0) (p : X → Bool) (xs : List X) (x : X) → AllByRecursion P xs → find p xs ≡ Some x → P x
+pub found_all : {X : Type 0} (P : X → Type 0) (p : X → Bool) (xs : List X) (x : X) → AllByRecursion P xs → find p xs ≡ Some x
+    → P x
 found_all P p [] x a h = cc
 found_all {X} P p (y ∷ ys) x a h =
     elim (p y) as (λ b. cond b (Some y) (find p ys) ≡ Some x → P x) [
@@ -64,7 +73,8 @@ found_passes {X} p (y ∷ ys) x h =
     ] refl h
 
 -- a filter that keeps what is sought
-pub find-filter : {X : Type 0} (p q : X → Bool) → ((x : X) → p x ≡ true → q x ≡ true) → (xs : List X) → find p (filter q xs) ≡ find p xs
+pub find-filter : {X : Type 0} (p q : X → Bool) → ((x : X) → p x ≡ true → q x ≡ true) → (xs : List X)
+    → find p (filter q xs) ≡ find p xs
 find-filter p q h [] = refl
 find-filter {X} p q h (x ∷ xs) =
     elim (p x) as (λ b. p x ≡ b → find p (cond (q x) (x ∷ filter q xs) (filter q xs)) ≡ cond b (Some x) (find p xs)) [
@@ -73,7 +83,8 @@ find-filter {X} p q h (x ∷ xs) =
     ] refl
 
 -- the first of those that are alike is found
-pub find-firsts : {X : Type 0} (same : X → X → Bool) (p : X → Bool) → ((x y : X) → same x y ≡ true → p x ≡ p y) → (xs : List X) → find p (firsts same xs) ≡ find p xs
+pub find-firsts : {X : Type 0} (same : X → X → Bool) (p : X → Bool) → ((x y : X) → same x y ≡ true → p x ≡ p y)
+    → (xs : List X) → find p (firsts same xs) ≡ find p xs
 find-firsts same p h [] = refl
 find-firsts {X} same p h (x ∷ xs) =
     elim (p x) as (λ b. p x ≡ b → cond b (Some x) (find p (filter (λ y. not (same x y)) (firsts same xs))) ≡ cond b (Some x) (find p xs)) [
@@ -92,7 +103,8 @@ pub list_any-found : {X : Type 0} (p : X → Bool) (xs : List X) → list_any p 
 list_any-found p [] = refl
 list_any-found p (x ∷ xs) = elim (p x) as (λ b. (b || list_any p xs) ≡ is_some (cond b (Some x) (find p xs))) [ true ↦ refl | false ↦ list_any-found p xs ]
 
-pub IsDistinct-filter : {X : Type 0} (same : X → X → Bool) (p : X → Bool) (xs : List X) → IsDistinct same xs → IsDistinct same (filter p xs)
+pub IsDistinct-filter : {X : Type 0} (same : X → X → Bool) (p : X → Bool) (xs : List X) → IsDistinct same xs
+    → IsDistinct same (filter p xs)
 unfolding IsDistinct
 IsDistinct-filter same p [] d = tt
 IsDistinct-filter same p (x ∷ xs) d =
@@ -113,7 +125,8 @@ module _ {X : Type 0} (cmp : X → X → Ordering) where
   All-put_in P x [] h a = (h, tt)
   All-put_in P x (y ∷ ys) h a = elim (is_lt (cmp x y)) as (λ b. AllByRecursion P (if b then x ∷ y ∷ ys else y ∷ put_in cmp x ys)) [ true ↦ (h, a) | false ↦ (a.0, All-put_in P x ys h a.1) ]
 
-  pub IsDistinct-put_in : (same : X → X → Bool) → ((x y : X) → same x y ≡ same y x) → (x : X) (ys : List X) → None_of (same x) ys → IsDistinct same ys → IsDistinct same (put_in cmp x ys)
+  pub IsDistinct-put_in : (same : X → X → Bool) → ((x y : X) → same x y ≡ same y x) → (x : X) (ys : List X)
+      → None_of (same x) ys → IsDistinct same ys → IsDistinct same (put_in cmp x ys)
   unfolding IsDistinct
   IsDistinct-put_in same turn x [] n d = (tt, tt)
   IsDistinct-put_in same turn x (y ∷ ys) n d =
@@ -140,7 +153,8 @@ module _ {X : Type 0} (cmp : X → X → Ordering) where
   OneAtMost p [] = Unit {0}
   OneAtMost p (x ∷ xs) = (p x ≡ true → None_of p xs) × OneAtMost p xs
 
-  pub one_at_most : (same : X → X → Bool) → IsAlike same → (p : X → Bool) → ((x y : X) → p x ≡ true → same x y ≡ p y) → (xs : List X) → IsDistinct same xs → OneAtMost p xs
+  pub one_at_most : (same : X → X → Bool) → IsAlike same → (p : X → Bool) → ((x y : X) → p x ≡ true → same x y ≡ p y)
+      → (xs : List X) → IsDistinct same xs → OneAtMost p xs
   unfolding IsDistinct
   one_at_most same alike p h [] d = tt
   one_at_most same alike p h (x ∷ xs) d = (λ e. others e xs d.0, one_at_most same alike p h xs d.1)
@@ -151,7 +165,8 @@ module _ {X : Type 0} (cmp : X → X → Ordering) where
 
   module _ (order : IsBelow cmp) (back : (x y : X) → is_lt (cmp x y) ≡ true → is_lt (cmp y x) ≡ false) where
     -- a list in order is what is left without the one that is found, with that put back
-    pub put_back : (p : X → Bool) (x : X) (ys : List X) → Rising cmp ys → OneAtMost p ys → find p ys ≡ Some x → ys ≡ put_in cmp x (filter (λ y. not (p y)) ys)
+    pub put_back : (p : X → Bool) (x : X) (ys : List X) → Rising cmp ys → OneAtMost p ys → find p ys ≡ Some x
+        → ys ≡ put_in cmp x (filter (λ y. not (p y)) ys)
     put_back p x [] r o h = cc
     put_back p x (y ∷ ys) r o h =
         elim (p y) as (λ b. p y ≡ b → cond b (Some y) (find p ys) ≡ Some x → y ∷ ys ≡ put_in cmp x (cond (not b) (y ∷ filter (λ z. not (p z)) ys) (filter (λ z. not (p z)) ys))) [
@@ -184,7 +199,8 @@ module _ {X : Type 0} (cmp : X → X → Ordering) where
     behind_none same y [] n = refl
     behind_none same y (z ∷ zs) n = rw n.0 (behind_none same y zs n.1)
 
-    pub behind_first : (same : X → X → Bool) (y x : X) (zs : List X) → Rising cmp zs → find (same y) zs ≡ Some x → is_behind same cmp y zs ≡ not (is_lt (cmp y x))
+    pub behind_first : (same : X → X → Bool) (y x : X) (zs : List X) → Rising cmp zs → find (same y) zs ≡ Some x
+        → is_behind same cmp y zs ≡ not (is_lt (cmp y x))
     behind_first same y x [] r h = cc
     behind_first same y x (z ∷ zs) r h =
         elim (same y z) as (λ b. cond b (Some z) (find (same y) zs) ≡ Some x → ((b && not (is_lt (cmp y z))) || is_behind same cmp y zs) ≡ not (is_lt (cmp y x))) [

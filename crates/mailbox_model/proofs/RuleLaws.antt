@@ -4,6 +4,7 @@ use Rattle.std.specs.Prelude.{if◌then◌else◌, IfSome, IfOk, IsTrue, filter,
 use Rattle.std.specs.List.{AllByRecursion}
 use Rattle.std.specs.Option.{option_or}
 use Rattle.std.proofs.lemmas.Bool.{or_parts, leb-false, ltb-false}
+use Rattle.std.proofs.lemmas.List.{length-append, length-map}
 use Rattle.std.proofs.lemmas.List.Sums.{sum_by-cons, sum_by_push}
 use Rattle.kit.specs.Moments.{last_moment}
 use Rattle.card_type.specs.declared.card.Card.{Card}
@@ -12,27 +13,27 @@ use Rattle.mailbox_model.specs.declared.change.Fault.{Fault}
 use Rattle.mailbox_model.specs.declared.change.Change.{Change}
 use Rattle.mailbox_model.specs.declared.change.Change.TheVariants.{Arrive, ArriveFault, Expunge, Seen, At}
 use Rattle.mailbox_model.specs.Lists.{Bytes}
-use Rattle.mailbox_model.specs.Mailbox.{Mailbox, Item, empty_mailbox, arrival, with_arrival, has_uid, marked, after, mail_weight, weights, lacks_room, full, most_items, most_weight, end_of_uids, RiseBelow, IsItem, IsMailbox, IsValidChange}
+use Rattle.mailbox_model.specs.Mailbox.{Mailbox, Item, empty_mailbox, arrival, with_arrival, has_uid, marked, after, after_all, mail_weight, weights, lacks_room, full, most_items, most_weight, end_of_uids, RiseBelow, IsItem, IsMailbox, IsValidChange, AreAllowed}
 use Rattle.mailbox_model.proofs.PutLaws.{All-filter}
 
 pub empty_keeps : (me : Bytes) → IsMailbox (empty_mailbox me)
-empty_keeps me = record { moment = omega arith; uids = omega arith; next = omega arith; each = tt; few = omega arith; light = omega arith }
+empty_keeps me =
+    record { moment = omega arith; uids = omega arith; next = omega arith; each = tt; few = omega arith; light = omega arith }
 
 -- ---- an arrival
 
-rise_push : (low next : ℕ) (items : List Item) (item : Item) → RiseBelow low items next → item.uid ≡ next → RiseBelow low (items ++ item ∷ []) (next + 1)
+rise_push : (low next : ℕ) (items : List Item) (item : Item) → RiseBelow low items next → item.uid ≡ next
+    → RiseBelow low (items ++ item ∷ []) (next + 1)
 rise_push low next [] item r e = (let h : low ≤ next = r in omega (arith, e), omega (arith, e))
 rise_push low next (x ∷ items) item r e = (r.0, rise_push (x.uid + 1) next items item r.1 e)
 
-each_push : (now : ℕ) (items : List Item) (item : Item) → AllByRecursion (IsItem now) items → IsItem now item → AllByRecursion (IsItem now) (items ++ item ∷ [])
+each_push : (now : ℕ) (items : List Item) (item : Item) → AllByRecursion (IsItem now) items → IsItem now item
+    → AllByRecursion (IsItem now) (items ++ item ∷ [])
 each_push now [] item a h = (h, tt)
 each_push now (x ∷ items) item a h = (a.0, each_push now items item a.1 h)
 
-length_push : (items : List Item) (item : Item) → length (items ++ item ∷ []) ≡ length items + 1
-length_push [] item = refl
-length_push (x ∷ items) item = let h = length_push items item in omega (arith, h)
-
-arrival_keeps : (m : Mailbox) (mail : Result Card Fault) → IsMailbox m → lacks_room m (mail_weight mail) ≡ false → IfOk mail (λ card. IsTrue (is_valid card)) → IsMailbox (with_arrival m mail)
+arrival_keeps : (m : Mailbox) (mail : Result Card Fault) → IsMailbox m → lacks_room m (mail_weight mail) ≡ false
+    → IfOk mail (λ card. IsTrue (is_valid card)) → IsMailbox (with_arrival m mail)
 arrival_keeps m mail k room valid =
     let crowded = nat_le most_items (length m.items) in
     let last = nat_le end_of_uids m.next_uid in
@@ -43,13 +44,14 @@ arrival_keeps m mail k room valid =
       uids = rise_push 1 m.next_uid m.items (arrival m mail) k.uids refl;
       next = omega (arith, leb-false end_of_uids m.next_uid first.1);
       each = each_push m.now m.items (arrival m mail) k.each (record { arrived = omega arith; seen_after = tt; seen_by = tt; valid = valid });
-      few = omega (arith, leb-false most_items (length m.items) first.0, length_push m.items (arrival m mail));
+      few = omega (arith, leb-false most_items (length m.items) first.0, length-append m.items (arrival m mail ∷ []));
       light = omega (arith, ltb-false most_weight (weights m.items + mail_weight mail) parts.1, sum_by_push (λ item. mail_weight item.mail) m.items (arrival m mail));
     }
 
 -- ---- an expunge
 
-rise_filter : (p : Item → Bool) (low more next : ℕ) (items : List Item) → more ≤ low → RiseBelow low items next → RiseBelow more (filter p items) next
+rise_filter : (p : Item → Bool) (low more next : ℕ) (items : List Item) → more ≤ low → RiseBelow low items next
+    → RiseBelow more (filter p items) next
 rise_filter p low more next [] h r = let k : low ≤ next = r in omega arith
 rise_filter p low more next (x ∷ items) h r =
     let first : low ≤ x.uid = r.0 in
@@ -90,9 +92,11 @@ expunge_keeps m uid k =
 
 -- a mark changes no more than the seen moment of an item that has none, and to now
 marked_as : (P : Item → Type 0) (uid now : ℕ) (item : Item) → P item → P (record item { seen = option_or item.seen (Some now) }) → P (marked uid now item)
-marked_as P uid now item h k = elim (has_uid uid item) as (λ b. P (if b then record item { seen = option_or item.seen (Some now) } else item)) [ true ↦ k | false ↦ h ]
+marked_as P uid now item h k =
+    elim (has_uid uid item) as (λ b. P (if b then record item { seen = option_or item.seen (Some now) } else item)) [ true ↦ k | false ↦ h ]
 
-rise_marked : (uid now low next : ℕ) (items : List Item) → RiseBelow low items next → RiseBelow low (map (marked uid now) items) next
+rise_marked : (uid now low next : ℕ) (items : List Item) → RiseBelow low items next
+    → RiseBelow low (map (marked uid now) items) next
 rise_marked uid now low next [] r = r
 rise_marked uid now low next (x ∷ items) r =
     let rest = rise_marked uid now (x.uid + 1) next items r.1 in
@@ -105,13 +109,10 @@ item_marked uid now item k = marked_as (IsItem now) uid now item k (by item.seen
     by None a b = record { arrived = k.arrived; seen_after = k.arrived; seen_by = omega arith; valid = k.valid }
     by (Some s) a b = record { arrived = k.arrived; seen_after = a; seen_by = b; valid = k.valid }
 
-each_marked : (uid now : ℕ) (items : List Item) → AllByRecursion (IsItem now) items → AllByRecursion (IsItem now) (map (marked uid now) items)
+each_marked : (uid now : ℕ) (items : List Item) → AllByRecursion (IsItem now) items
+    → AllByRecursion (IsItem now) (map (marked uid now) items)
 each_marked uid now [] a = tt
 each_marked uid now (x ∷ items) a = (item_marked uid now x a.0, each_marked uid now items a.1)
-
-length_marked : (uid now : ℕ) (items : List Item) → length (map (marked uid now) items) ≡ length items
-length_marked uid now [] = refl
-length_marked uid now (x ∷ items) = let h = length_marked uid now items in omega (arith, h)
 
 weights_marked : (uid now : ℕ) (items : List Item) → weights (map (marked uid now) items) ≡ weights items
 weights_marked uid now [] = refl
@@ -127,20 +128,22 @@ seen_keeps m uid k =
       uids = rise_marked uid m.now 1 m.next_uid m.items k.uids;
       next = k.next;
       each = each_marked uid m.now m.items k.each;
-      few = omega (arith, k.few, length_marked uid m.now m.items);
+      few = omega (arith, k.few, length-map m.items (marked uid m.now));
       light = omega (arith, k.light, weights_marked uid m.now m.items);
     }
 
 -- ---- a moment
 
 item_later : (now more : ℕ) (item : Item) → now ≤ more → IsItem now item → IsItem more item
-item_later now more item h k = record { arrived = omega (arith, k.arrived); seen_after = k.seen_after; seen_by = by item.seen k.seen_by; valid = k.valid }
+item_later now more item h k =
+    record { arrived = omega (arith, k.arrived); seen_after = k.seen_after; seen_by = by item.seen k.seen_by; valid = k.valid }
   where
     by : (o : Option ℕ) → IfSome o (λ seen. seen ≤ now) → IfSome o (λ seen. seen ≤ more)
     by None b = tt
     by (Some s) b = let c : s ≤ now = b in omega arith
 
-each_later : (now more : ℕ) (items : List Item) → now ≤ more → AllByRecursion (IsItem now) items → AllByRecursion (IsItem more) items
+each_later : (now more : ℕ) (items : List Item) → now ≤ more → AllByRecursion (IsItem now) items
+    → AllByRecursion (IsItem more) items
 each_later now more [] h a = tt
 each_later now more (x ∷ items) h a = (item_later now more x h a.0, each_later now more items h a.1)
 
@@ -155,9 +158,14 @@ at_keeps m moment h k =
       light = k.light;
     }
 
-pub change_keeps : (m : Mailbox) (change : Change) → IsMailbox m → IsValidChange change → full m change ≡ false → IsMailbox (after m change)
+pub change_keeps : (m : Mailbox) (change : Change) → IsMailbox m → IsValidChange change → full m change ≡ false
+    → IsMailbox (after m change)
 change_keeps m (Arrive card) k valid room = arrival_keeps m (Ok card) k room valid
 change_keeps m (ArriveFault fault) k valid room = arrival_keeps m (Err fault) k room tt
 change_keeps m (Expunge uid) k valid room = expunge_keeps m uid k
 change_keeps m (Seen uid) k valid room = seen_keeps m uid k
 change_keeps m (At moment) k valid room = at_keeps m moment valid k
+
+pub changes_keep : (m : Mailbox) (changes : List Change) → IsMailbox m → AreAllowed m changes → IsMailbox (after_all m changes)
+changes_keep m [] k a = k
+changes_keep m (change ∷ changes) k a = changes_keep (after m change) changes (change_keeps m change k a.0 a.1) a.2

@@ -31,7 +31,8 @@ found_both : (y : Mail) (zs : List Mail) → find (same_id y) (firsts same_id zs
 found_both y zs = find-firsts same_id (same_id y) (same_for y) zs
 
 -- the present ones with u put back where one with the id of y is found
-taken : (y u : Mail) (zs : List Mail) → Rising mail_cmp zs → find (same_id y) (firsts same_id zs) ≡ Some u → firsts same_id zs ≡ put_in mail_cmp u (unlike same_id mail_cmp y (firsts same_id zs))
+taken : (y u : Mail) (zs : List Mail) → Rising mail_cmp zs → find (same_id y) (firsts same_id zs) ≡ Some u
+    → firsts same_id zs ≡ put_in mail_cmp u (unlike same_id mail_cmp y (firsts same_id zs))
 taken y u zs r e =
     put_back mail_cmp is_below is_never_back (same_id y) u (firsts same_id zs) (Rising-firsts same_id mail_cmp zs r)
     (one_at_most mail_cmp same_id is_alike (same_id y) (λ x z h. sym (is_alike.alike y x z h)) (firsts same_id zs) (IsDistinct-firsts same_id zs)) e
@@ -41,10 +42,14 @@ same_bytes y u e = (bytes_decides y.card.id u.card.id).0 e
 
 -- ---- an arrival
 
-arrived : (m : Mailbox) (card : Card) → RiseBelow 1 m.items m.next_uid → present (after m (Arrive card)) ≡ displaced (arriving m card) (mails m) (present m)
-arrived m card u = ap (firsts same_id) (mails-arrive m card) ∙ firsts-insert same_id mail_cmp is_alike is_below (arriving m card) (mails m) (line_of m u).rising
+arrived : (m : Mailbox) (card : Card) → RiseBelow 1 m.items m.next_uid
+    → present (after m (Arrive card)) ≡ displaced (arriving m card) (mails m) (present m)
+arrived m card u =
+    ap (firsts same_id) (mails-arrive m card)
+    ∙ firsts-insert same_id mail_cmp is_alike is_below (arriving m card) (mails m) (line_of m u).rising
 
-pub arrive_turn : (m : Mailbox) (card : Card) → RiseBelow 1 m.items m.next_uid → (o : Option Mail) → find (same_id (arriving m card)) (present m) ≡ o →
+pub arrive_turn : (m : Mailbox) (card : Card) → RiseBelow 1 m.items m.next_uid → (o : Option Mail)
+    → find (same_id (arriving m card)) (present m) ≡ o →
     Turns (present m) (present (after m (Arrive card))) m.now (turn_in (arriving m card) o)
 arrive_turn m card u None e =
     let y = arriving m card in
@@ -72,7 +77,8 @@ arrive_turn m card u (Some x) e =
     y = arriving m card
 
     behind : is_behind same_id mail_cmp y (mails m) ≡ not (is_lt (mail_cmp y x))
-    behind = behind_first mail_cmp is_below is_never_back same_id y x (mails m) (line_of m u).rising (sym (found_both y (mails m)) ∙ e)
+    behind =
+        behind_first mail_cmp is_below is_never_back same_id y x (mails m) (line_of m u).rising (sym (found_both y (mails m)) ∙ e)
 
 -- ---- an expunge
 
@@ -87,10 +93,12 @@ module _ (m : Mailbox) (uid : ℕ) (u : RiseBelow 1 m.items m.next_uid) where
   gone_present = All-firsts (λ z. has_mail_uid uid z ≡ false) same_id (mails n) gone
 
   rising_left : Rising mail_cmp (mails n)
-  rising_left = subst (Rising mail_cmp) (sym (mails-expunge m uid u)) (Rising-filter mail_cmp (λ z. not (has_mail_uid uid z)) (mails m) (line_of m u).rising)
+  rising_left =
+      subst (Rising mail_cmp) (sym (mails-expunge m uid u)) (Rising-filter mail_cmp (λ z. not (has_mail_uid uid z)) (mails m) (line_of m u).rising)
 
   -- where none had the uid
-  none_left : None_of (has_mail_uid uid) (mails m) → Turns (present m) (present n) m.now (turn_out (find (has_mail_uid uid) (present m)) (present n))
+  none_left : None_of (has_mail_uid uid) (mails m)
+      → Turns (present m) (present n) m.now (turn_out (find (has_mail_uid uid) (present m)) (present n))
   none_left none =
       subst (λ o. Turns (present m) (present n) m.now (turn_out o (present n)))
       (sym (none_found (has_mail_uid uid) (present m) (All-firsts (λ z. has_mail_uid uid z ≡ false) same_id (mails m) none)))
@@ -101,7 +109,8 @@ module _ (m : Mailbox) (uid : ℕ) (u : RiseBelow 1 m.items m.next_uid) where
     its_uid = found_passes (has_mail_uid uid) (mails m) y e
 
     uid_at_most_once : OneAtMost mail_cmp (has_mail_uid uid) (mails m)
-    uid_at_most_once = one_at_most mail_cmp same_uid uid_alike (has_mail_uid uid) (λ x z h. same x z h) (mails m) (line_of m u).once
+    uid_at_most_once =
+        one_at_most mail_cmp same_uid uid_alike (has_mail_uid uid) (λ x z h. same x z h) (mails m) (line_of m u).once
       where
         same : (x z : Mail) → has_mail_uid uid x ≡ true → same_uid x z ≡ has_mail_uid uid z
         same x z h = ap (λ k. k == z.uid) (eqb-true x.uid uid h) ∙ uid_alike.turn (record z { uid = uid }) z
@@ -112,14 +121,16 @@ module _ (m : Mailbox) (uid : ℕ) (u : RiseBelow 1 m.items m.next_uid) where
         ∙ firsts-insert same_id mail_cmp is_alike is_below y (mails n) rising_left
 
     -- it stood behind one with its id
-    hidden : is_behind same_id mail_cmp y (mails n) ≡ true → Turns (present m) (present n) m.now (turn_out (find (has_mail_uid uid) (present m)) (present n))
+    hidden : is_behind same_id mail_cmp y (mails n) ≡ true
+        → Turns (present m) (present n) m.now (turn_out (find (has_mail_uid uid) (present m)) (present n))
     hidden b =
         let same : present m ≡ present n = before ∙ rw b refl in
         subst (λ o. Turns (present m) (present n) m.now (turn_out o (present n)))
         (sym (ap (find (has_mail_uid uid)) same ∙ none_found (has_mail_uid uid) (present n) gone_present)) (sym same)
 
     -- it was present, and the next one with its id is now, if there is one
-    shown : is_behind same_id mail_cmp y (mails n) ≡ false → Turns (present m) (present n) m.now (turn_out (find (has_mail_uid uid) (present m)) (present n))
+    shown : is_behind same_id mail_cmp y (mails n) ≡ false
+        → Turns (present m) (present n) m.now (turn_out (find (has_mail_uid uid) (present m)) (present n))
     shown b =
         let was : present m ≡ put_in mail_cmp y (unlike same_id mail_cmp y (present n)) = before ∙ rw b refl in
         let here : find (has_mail_uid uid) (present m) ≡ Some y =
@@ -127,8 +138,10 @@ module _ (m : Mailbox) (uid : ℕ) (u : RiseBelow 1 m.items m.next_uid) where
         ∙ find-put_in mail_cmp (has_mail_uid uid) y (unlike same_id mail_cmp y (present n)) its_uid (All-filter (λ z. has_mail_uid uid z ≡ false) (λ z. not (same_id y z)) (present n) gone_present) in
         subst (λ o. Turns (present m) (present n) m.now (turn_out o (present n))) (sym here) (next was (find (same_id y) (present n)) refl)
       where
-        next : present m ≡ put_in mail_cmp y (unlike same_id mail_cmp y (present n)) → (o : Option Mail) → find (same_id y) (present n) ≡ o → Turns (present m) (present n) m.now (turn_to y o)
-        next was None k = (y, refl, was ∙ ap (put_in mail_cmp y) (none_filtered (same_id y) (present n) (none_from_found (same_id y) (present n) k)))
+        next : present m ≡ put_in mail_cmp y (unlike same_id mail_cmp y (present n)) → (o : Option Mail)
+            → find (same_id y) (present n) ≡ o → Turns (present m) (present n) m.now (turn_to y o)
+        next was None k =
+            (y, refl, was ∙ ap (put_in mail_cmp y) (none_filtered (same_id y) (present n) (none_from_found (same_id y) (present n) k)))
         next was (Some z) k = (
           y,
           z,
@@ -146,7 +159,8 @@ module _ (m : Mailbox) (uid : ℕ) (u : RiseBelow 1 m.items m.next_uid) where
   pub expunge_turn : Turns (present m) (present n) m.now (turn m (Expunge uid))
   expunge_turn = by (find (has_mail_uid uid) (mails m)) refl
     where
-      by : (o : Option Mail) → find (has_mail_uid uid) (mails m) ≡ o → Turns (present m) (present n) m.now (turn m (Expunge uid))
+      by : (o : Option Mail) → find (has_mail_uid uid) (mails m) ≡ o
+          → Turns (present m) (present n) m.now (turn m (Expunge uid))
       by None e = none_left (none_from_found (has_mail_uid uid) (mails m) e)
       by (Some y) e =
           elim (is_behind same_id mail_cmp y (mails n)) as (λ b. is_behind same_id mail_cmp y (mails n) ≡ b → Turns (present m) (present n) m.now (turn m (Expunge uid))) [
@@ -163,18 +177,22 @@ same_seen uid now a b =
       | false ↦ elim (has_mail_uid uid b) as (λ c. same_id a (if c then record b { seen = option_or b.seen (Some now) } else b) ≡ same_id a b) [ true ↦ refl | false ↦ refl ]
     ]
 
-filter-map : {X : Type 0} (f : X → X) (p q : X → Bool) → ((x : X) → p (f x) ≡ q x) → (xs : List X) → filter p (map f xs) ≡ map f (filter q xs)
+filter-map : {X : Type 0} (f : X → X) (p q : X → Bool) → ((x : X) → p (f x) ≡ q x) → (xs : List X)
+    → filter p (map f xs) ≡ map f (filter q xs)
 filter-map f p q h [] = refl
 filter-map f p q h (x ∷ xs) = rw (h x) (elim (q x) as (λ b. cond b (f x ∷ filter p (map f xs)) (filter p (map f xs)) ≡ map f (cond b (x ∷ filter q xs) (filter q xs))) [ true ↦ ap (λ ys. f x ∷ ys) (filter-map f p q h xs) | false ↦ filter-map f p q h xs ])
 
-firsts-map : {X : Type 0} (same : X → X → Bool) (f : X → X) → ((x y : X) → same (f x) (f y) ≡ same x y) → (xs : List X) → firsts same (map f xs) ≡ map f (firsts same xs)
+firsts-map : {X : Type 0} (same : X → X → Bool) (f : X → X) → ((x y : X) → same (f x) (f y) ≡ same x y) → (xs : List X)
+    → firsts same (map f xs) ≡ map f (firsts same xs)
 firsts-map same f h [] = refl
 firsts-map same f h (x ∷ xs) =
     ap (λ ys. f x ∷ filter (λ y. not (same (f x) y)) ys) (firsts-map same f h xs)
     ∙ ap (λ ys. f x ∷ ys) (filter-map f (λ y. not (same (f x) y)) (λ y. not (same x y)) (λ y. ap not (h x y)) (firsts same xs))
 
 present-seen : (m : Mailbox) (uid : ℕ) → present (after m (Seen uid)) ≡ map (seen_at uid m.now) (present m)
-present-seen m uid = ap (firsts same_id) (mails-seen m uid) ∙ firsts-map same_id (seen_at uid m.now) (same_seen uid m.now) (mails m)
+present-seen m uid =
+    ap (firsts same_id) (mails-seen m uid)
+    ∙ firsts-map same_id (seen_at uid m.now) (same_seen uid m.now) (mails m)
 
 -- one that is not unseen under the uid stays as it is
 stays : (uid now : ℕ) (t : Mail) → is_unseen uid t ≡ false → seen_at uid now t ≡ t
@@ -195,7 +213,8 @@ all_stay uid now (t ∷ ts) n = λ i. stays uid now t n.0 i ∷ all_stay uid now
 pub seen_turn : (m : Mailbox) (uid : ℕ) → Turns (present m) (present (after m (Seen uid))) m.now (turn m (Seen uid))
 seen_turn m uid = by (find (is_unseen uid) (present m)) refl
   where
-    by : (o : Option Mail) → find (is_unseen uid) (present m) ≡ o → Turns (present m) (present (after m (Seen uid))) m.now (if is_some o then Marked uid else Nothing)
+    by : (o : Option Mail) → find (is_unseen uid) (present m) ≡ o
+        → Turns (present m) (present (after m (Seen uid))) m.now (if is_some o then Marked uid else Nothing)
     by None e = present-seen m uid ∙ all_stay uid m.now (present m) (none_from_found (is_unseen uid) (present m) e)
     by (Some t) e =
         let passes = and_parts (has_mail_uid uid t) (not (is_some t.seen)) (found_passes (is_unseen uid) (present m) t e) in
@@ -207,19 +226,22 @@ seen_turn m uid = by (find (is_unseen uid) (present m)) refl
 
 -- ---- every change
 
-pub present_turn : (m : Mailbox) (change : Change) → RiseBelow 1 m.items m.next_uid → Turns (present m) (present (after m change)) m.now (turn m change)
+pub present_turn : (m : Mailbox) (change : Change) → RiseBelow 1 m.items m.next_uid
+    → Turns (present m) (present (after m change)) m.now (turn m change)
 present_turn m (Arrive card) u = arrive_turn m card u (find (same_id (arriving m card)) (present m)) refl
 present_turn m (ArriveFault fault) u = ap (firsts same_id) (mails-fault m fault)
 present_turn m (Expunge uid) u = expunge_turn m uid u
 present_turn m (Seen uid) u = seen_turn m uid
-present_turn m (At moment) u = elim (nat_lt m.now moment) as (λ b. Turns (present m) (present m) m.now (if b then Moved moment else Nothing)) [ true ↦ refl | false ↦ refl ]
+present_turn m (At moment) u =
+    elim (nat_lt m.now moment) as (λ b. Turns (present m) (present m) m.now (if b then Moved moment else Nothing)) [ true ↦ refl | false ↦ refl ]
 
 pub clock_turn : (m : Mailbox) (change : Change) → MovesClock m.now (after m change).now (turn m change)
 clock_turn m (Arrive card) = by (find (same_id (arriving m card)) (present m))
   where
     by : (o : Option Mail) → MovesClock m.now m.now (turn_in (arriving m card) o)
     by None = refl
-    by (Some x) = elim (is_lt (mail_cmp (arriving m card) x)) as (λ b. MovesClock m.now m.now (if b then Replace (spot x) (spot (arriving m card)) else Nothing)) [ true ↦ refl | false ↦ refl ]
+    by (Some x) =
+        elim (is_lt (mail_cmp (arriving m card) x)) as (λ b. MovesClock m.now m.now (if b then Replace (spot x) (spot (arriving m card)) else Nothing)) [ true ↦ refl | false ↦ refl ]
 clock_turn m (ArriveFault fault) = refl
 clock_turn m (Expunge uid) = by (find (has_mail_uid uid) (present m))
   where
@@ -230,7 +252,8 @@ clock_turn m (Expunge uid) = by (find (has_mail_uid uid) (present m))
     by : (o : Option Mail) → MovesClock m.now m.now (turn_out o (present (after m (Expunge uid))))
     by None = refl
     by (Some t) = to t (find (same_id t) (present (after m (Expunge uid))))
-clock_turn m (Seen uid) = elim (is_some (find (is_unseen uid) (present m))) as (λ b. MovesClock m.now m.now (if b then Marked uid else Nothing)) [ true ↦ refl | false ↦ refl ]
+clock_turn m (Seen uid) =
+    elim (is_some (find (is_unseen uid) (present m))) as (λ b. MovesClock m.now m.now (if b then Marked uid else Nothing)) [ true ↦ refl | false ↦ refl ]
 clock_turn m (At moment) =
     elim (nat_lt m.now moment) as (λ b. nat_lt m.now moment ≡ b → MovesClock m.now (max m.now moment) (if b then Moved moment else Nothing)) [
       | true ↦ λ e. (ltb-true m.now moment e, omega (arith, ltb-true m.now moment e))

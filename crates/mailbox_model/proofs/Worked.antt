@@ -1,5 +1,5 @@
 -- Worked mailboxes: what is asked of each, and the text that answers it, computed from the definitions.
-use Rattle.std.proofs.Common.{◌≡◌, refl, ℕ, true, false, Some, None, List, [], ◌∷◌}
+use Rattle.std.proofs.Common.{◌≡◌, refl, ℕ, true, false, Some, None, List, [], ◌∷◌, ◌++◌}
 use Rattle.std.specs.Prelude.{codes}
 use Rattle.std.specs.Fmt.{digits}
 use Rattle.std.specs.Str.{chars}
@@ -17,18 +17,19 @@ use Rattle.mailbox_model.specs.Answers.{answer}
 use Rattle.mailbox_model.specs.Answers.Question.{AllChats, OneChat, AllContacts, AllUpdates, InfoUpdates}
 use Rattle.mailbox_model.proofs.WorkedCards.{me, at, bob, ann, trip, M1, M2, E1, E2, X1, X2, T1, F2, O1, N1, N2, G0, G1, G2, G3, G4, G5, R1, R2, R3, A1, U1, U2, U3, H1, H2, H3, C1}
 
-abbrev box : List Change → Mailbox
+abbrev pub box : List Change → Mailbox
 box changes = after_all (empty_mailbox me) changes
 
 -- 2024-05-01 12:00
-abbrev noon : Change
+abbrev pub noon : Change
 noon = At 1714564800
 
 -- a place of the id m1@x.org in mail order
 abbrev place : ℕ → ℕ → Spot
 place date uid = record { date = date; id = codes "m1@x.org"; uid = uid }
 
-one_mail : answer (box (noon ∷ Arrive M1 ∷ [])) AllChats ≡ Some (codes "single:bob@x.org | Bob | fresh 1 | 2024-05-01 10:00 | Hi\n")
+one_mail : answer (box (noon ∷ Arrive M1 ∷ [])) AllChats
+    ≡ Some (codes "single:bob@x.org | Bob | fresh 1 | 2024-05-01 10:00 | Hi\n")
 unfolding time_text civil_date span_and_rest digits chars encode
 one_mail = refl
 
@@ -36,113 +37,243 @@ no_mail : answer (box (noon ∷ [])) AllChats ≡ Some []
 no_mail = refl
 
 -- the parent is not there: both are in a thread that is named by its id
-replies_without_parent : answer (box (noon ∷ Arrive R1 ∷ Arrive R2 ∷ [])) AllChats ≡ Some (codes "thread:g1@x.org | Re: Trip | fresh 2 | 2024-05-01 09:40 | Good\n")
+replies_without_parent : answer (box (noon ∷ Arrive R1 ∷ Arrive R2 ∷ [])) AllChats
+    ≡ Some (codes "thread:g1@x.org | Re: Trip | fresh 2 | 2024-05-01 09:40 | Good\n")
 unfolding time_text civil_date span_and_rest digits chars encode
 replies_without_parent = refl
 
-parent_comes_late : answer (box (noon ∷ Arrive R1 ∷ Arrive R2 ∷ Arrive G1 ∷ [])) AllChats ≡ Some (codes "group:abcdefghijk | Trip | fresh 3 | 2024-05-01 09:40 | Good\n")
+parent_comes_late : answer (box (noon ∷ Arrive R1 ∷ Arrive R2 ∷ Arrive G1 ∷ [])) AllChats
+    ≡ Some (codes "group:abcdefghijk | Trip | fresh 3 | 2024-05-01 09:40 | Good\n")
 unfolding time_text civil_date span_and_rest digits chars encode
 parent_comes_late = refl
 
-parent_is_expunged : answer (box (noon ∷ Arrive R1 ∷ Arrive R2 ∷ Arrive G1 ∷ Expunge 3 ∷ [])) AllChats ≡ Some (codes "thread:g1@x.org | Re: Trip | fresh 2 | 2024-05-01 09:40 | Good\n")
+parent_is_expunged : answer (box (noon ∷ Arrive R1 ∷ Arrive R2 ∷ Arrive G1 ∷ Expunge 3 ∷ [])) AllChats
+    ≡ Some (codes "thread:g1@x.org | Re: Trip | fresh 2 | 2024-05-01 09:40 | Good\n")
 unfolding time_text civil_date span_and_rest digits chars encode
 parent_is_expunged = refl
 
 -- the last edit in mail order counts, whenever it came
-edits_before_original : answer (box (noon ∷ Arrive E1 ∷ At 1714564801 ∷ Arrive M1 ∷ Arrive E2 ∷ [])) (OneChat (Single bob)) ≡ Some (codes "chat single:bob@x.org\nname Bob\nmembers me@x.org, bob@x.org\ntimer 0\n#2 2024-05-01 10:00 bob@x.org new: Hello [edited]\n")
+edits_before_original : answer (box (noon ∷ Arrive E1 ∷ At 1714564801 ∷ Arrive M1 ∷ Arrive E2 ∷ [])) (OneChat (Single bob))
+    ≡ Some (
+    codes "chat single:bob@x.org\n"
+    ++ codes "name Bob\n"
+    ++ codes "members me@x.org, bob@x.org\n"
+    ++ codes "timer 0\n"
+    ++ codes "#2 2024-05-01 10:00 bob@x.org new: Hello [edited]\n"
+    )
 unfolding time_text civil_date span_and_rest digits chars encode
 edits_before_original = refl
 
-stranger_edits_and_deletes : answer (box (noon ∷ Arrive M1 ∷ Arrive X1 ∷ Arrive X2 ∷ [])) AllChats ≡ Some (codes "single:bob@x.org | Bob | fresh 1 | 2024-05-01 10:00 | Hi\n")
+stranger_edits_and_deletes : answer (box (noon ∷ Arrive M1 ∷ Arrive X1 ∷ Arrive X2 ∷ [])) AllChats
+    ≡ Some (codes "single:bob@x.org | Bob | fresh 1 | 2024-05-01 10:00 | Hi\n")
 unfolding time_text civil_date span_and_rest digits chars encode
 stranger_edits_and_deletes = refl
 
-members_come_and_go : answer (box (noon ∷ Arrive G1 ∷ Arrive G2 ∷ Arrive G3 ∷ [])) (OneChat (Group trip)) ≡ Some (codes "chat group:abcdefghijk\nname Trip\nmembers ann@x.org, me@x.org, cid@x.org\ntimer 0\n#1 2024-05-01 09:00 ann@x.org new: Welcome\n#2 2024-05-01 09:10 ann@x.org new: Cid is here\n#3 2024-05-01 09:20 ann@x.org new: Bob left\n")
+members_come_and_go : answer (box (noon ∷ Arrive G1 ∷ Arrive G2 ∷ Arrive G3 ∷ [])) (OneChat (Group trip))
+    ≡ Some (
+    codes "chat group:abcdefghijk\n"
+    ++ codes "name Trip\n"
+    ++ codes "members ann@x.org, me@x.org, cid@x.org\n"
+    ++ codes "timer 0\n"
+    ++ codes "#1 2024-05-01 09:00 ann@x.org new: Welcome\n"
+    ++ codes "#2 2024-05-01 09:10 ann@x.org new: Cid is here\n"
+    ++ codes "#3 2024-05-01 09:20 ann@x.org new: Bob left\n"
+    )
 unfolding time_text civil_date span_and_rest digits chars encode
 members_come_and_go = refl
 
 -- the first card in mail order founds the group, of which Ann is then no member
-oldest_mail_comes_last : answer (box (noon ∷ Arrive G1 ∷ Arrive G2 ∷ Arrive G3 ∷ noon ∷ Arrive G0 ∷ [])) (OneChat (Group trip)) ≡ Some (codes "chat group:abcdefghijk\nname Old trip\nmembers bob@x.org, me@x.org, dan@x.org\ntimer 0\n#4 2024-05-01 08:50 bob@x.org new: First\n#1 2024-05-01 09:00 ann@x.org new: Welcome\n#2 2024-05-01 09:10 ann@x.org new: Cid is here\n#3 2024-05-01 09:20 ann@x.org new: Bob left\n")
+oldest_mail_comes_last : answer (box (noon ∷ Arrive G1 ∷ Arrive G2 ∷ Arrive G3 ∷ noon ∷ Arrive G0 ∷ [])) (OneChat (Group trip))
+    ≡ Some (
+    codes "chat group:abcdefghijk\n"
+    ++ codes "name Old trip\n"
+    ++ codes "members bob@x.org, me@x.org, dan@x.org\n"
+    ++ codes "timer 0\n"
+    ++ codes "#4 2024-05-01 08:50 bob@x.org new: First\n"
+    ++ codes "#1 2024-05-01 09:00 ann@x.org new: Welcome\n"
+    ++ codes "#2 2024-05-01 09:10 ann@x.org new: Cid is here\n"
+    ++ codes "#3 2024-05-01 09:20 ann@x.org new: Bob left\n"
+    )
 unfolding time_text civil_date span_and_rest digits chars encode
 oldest_mail_comes_last = refl
 
-stranger_answers_in_group : answer (box (noon ∷ Arrive G1 ∷ Arrive R3 ∷ [])) (OneChat (Group trip)) ≡ Some (codes "chat group:abcdefghijk\nname Trip\nmembers ann@x.org, me@x.org, bob@x.org\ntimer 0\n#1 2024-05-01 09:00 ann@x.org new: Welcome\n#2 2024-05-01 09:50 bob@x.org new: [Re: Trip] Me too\n")
+stranger_answers_in_group : answer (box (noon ∷ Arrive G1 ∷ Arrive R3 ∷ [])) (OneChat (Group trip))
+    ≡ Some (
+    codes "chat group:abcdefghijk\n"
+    ++ codes "name Trip\n"
+    ++ codes "members ann@x.org, me@x.org, bob@x.org\n"
+    ++ codes "timer 0\n"
+    ++ codes "#1 2024-05-01 09:00 ann@x.org new: Welcome\n"
+    ++ codes "#2 2024-05-01 09:50 bob@x.org new: [Re: Trip] Me too\n"
+    )
 unfolding time_text civil_date span_and_rest digits chars encode
 stranger_answers_in_group = refl
 
-removed_member_renames : answer (box (noon ∷ Arrive G1 ∷ Arrive G3 ∷ Arrive G4 ∷ [])) (OneChat (Group trip)) ≡ Some (codes "chat group:abcdefghijk\nname Trip\nmembers ann@x.org, me@x.org, cid@x.org\ntimer 0\n#1 2024-05-01 09:00 ann@x.org new: Welcome\n#2 2024-05-01 09:20 ann@x.org new: Bob left\n#3 2024-05-01 09:25 bob@x.org new: Mine\n")
+removed_member_renames : answer (box (noon ∷ Arrive G1 ∷ Arrive G3 ∷ Arrive G4 ∷ [])) (OneChat (Group trip))
+    ≡ Some (
+    codes "chat group:abcdefghijk\n"
+    ++ codes "name Trip\n"
+    ++ codes "members ann@x.org, me@x.org, cid@x.org\n"
+    ++ codes "timer 0\n"
+    ++ codes "#1 2024-05-01 09:00 ann@x.org new: Welcome\n"
+    ++ codes "#2 2024-05-01 09:20 ann@x.org new: Bob left\n"
+    ++ codes "#3 2024-05-01 09:25 bob@x.org new: Mine\n"
+    )
 unfolding time_text civil_date span_and_rest digits chars encode
 removed_member_renames = refl
 
-timer_runs_since_seen : answer (box (At 900 ∷ Arrive T1 ∷ At 1000 ∷ Seen 1 ∷ At 1059 ∷ [])) (OneChat (Single bob)) ≡ Some (codes "chat single:bob@x.org\nname bob@x.org\nmembers me@x.org, bob@x.org\ntimer 60\n#1 1970-01-01 00:15 bob@x.org seen: Secret\n")
+timer_runs_since_seen : answer (box (At 900 ∷ Arrive T1 ∷ At 1000 ∷ Seen 1 ∷ At 1059 ∷ [])) (OneChat (Single bob))
+    ≡ Some (
+    codes "chat single:bob@x.org\n"
+    ++ codes "name bob@x.org\n"
+    ++ codes "members me@x.org, bob@x.org\n"
+    ++ codes "timer 60\n"
+    ++ codes "#1 1970-01-01 00:15 bob@x.org seen: Secret\n"
+    )
 unfolding time_text civil_date span_and_rest digits chars encode
 timer_runs_since_seen = refl
 
-timer_is_over : answer (box (At 900 ∷ Arrive T1 ∷ At 1000 ∷ Seen 1 ∷ At 1059 ∷ At 1060 ∷ [])) AllChats ≡ Some (codes "single:bob@x.org | bob@x.org | fresh 0 | - | -\n")
+timer_is_over : answer (box (At 900 ∷ Arrive T1 ∷ At 1000 ∷ Seen 1 ∷ At 1059 ∷ At 1060 ∷ [])) AllChats
+    ≡ Some (codes "single:bob@x.org | bob@x.org | fresh 0 | - | -\n")
 unfolding time_text civil_date span_and_rest digits chars encode
 timer_is_over = refl
 
-unseen_stays : answer (box (At 900 ∷ Arrive T1 ∷ At 9999 ∷ [])) AllChats ≡ Some (codes "single:bob@x.org | bob@x.org | fresh 1 | 1970-01-01 00:15 | Secret\n")
+unseen_stays : answer (box (At 900 ∷ Arrive T1 ∷ At 9999 ∷ [])) AllChats
+    ≡ Some (codes "single:bob@x.org | bob@x.org | fresh 1 | 1970-01-01 00:15 | Secret\n")
 unfolding time_text civil_date span_and_rest digits chars encode
 unseen_stays = refl
 
-first_receipt_counts : answer (box (noon ∷ Arrive N1 ∷ Arrive O1 ∷ Arrive N2 ∷ [])) (OneChat (Single bob)) ≡ Some (codes "chat single:bob@x.org\nname bob@x.org\nmembers me@x.org, bob@x.org\ntimer 0\n#2 2024-05-01 10:00 me@x.org out: Dinner?\n  read by bob@x.org 2024-05-01 10:04\n")
+first_receipt_counts : answer (box (noon ∷ Arrive N1 ∷ Arrive O1 ∷ Arrive N2 ∷ [])) (OneChat (Single bob))
+    ≡ Some (
+    codes "chat single:bob@x.org\n"
+    ++ codes "name bob@x.org\n"
+    ++ codes "members me@x.org, bob@x.org\n"
+    ++ codes "timer 0\n"
+    ++ codes "#2 2024-05-01 10:00 me@x.org out: Dinner?\n"
+    ++ codes "  read by bob@x.org 2024-05-01 10:04\n"
+    )
 unfolding time_text civil_date span_and_rest digits chars encode
 first_receipt_counts = refl
 
-updates_by_date : answer (box (noon ∷ Arrive A1 ∷ Arrive U1 ∷ Arrive U3 ∷ Arrive U2 ∷ [])) (AllUpdates (codes "a1@x.org")) ≡ Some (codes "1/3 bob@x.org | payload {\"move\":1} | info e4\n2/3 bob@x.org | payload {\"move\":2}\n3/3 bob@x.org | payload {\"move\":3} | info Nf3\n")
+updates_by_date : answer (box (noon ∷ Arrive A1 ∷ Arrive U1 ∷ Arrive U3 ∷ Arrive U2 ∷ [])) (AllUpdates (codes "a1@x.org"))
+    ≡ Some (
+    codes "1/3 bob@x.org | payload {\"move\":1} | info e4\n"
+    ++ codes "2/3 bob@x.org | payload {\"move\":2}\n"
+    ++ codes "3/3 bob@x.org | payload {\"move\":3} | info Nf3\n"
+    )
 unfolding time_text civil_date span_and_rest digits chars encode
 updates_by_date = refl
 
-updates_that_inform : answer (box (noon ∷ Arrive A1 ∷ Arrive U1 ∷ Arrive U3 ∷ Arrive U2 ∷ [])) (InfoUpdates (codes "a1@x.org")) ≡ Some (codes "1/3 bob@x.org | payload {\"move\":1} | info e4\n3/3 bob@x.org | payload {\"move\":3} | info Nf3\n")
+updates_that_inform : answer (box (noon ∷ Arrive A1 ∷ Arrive U1 ∷ Arrive U3 ∷ Arrive U2 ∷ [])) (InfoUpdates (codes "a1@x.org"))
+    ≡ Some (
+    codes "1/3 bob@x.org | payload {\"move\":1} | info e4\n"
+    ++ codes "3/3 bob@x.org | payload {\"move\":3} | info Nf3\n"
+    )
 unfolding time_text civil_date span_and_rest digits chars encode
 updates_that_inform = refl
 
 -- two mails have one id: the first in mail order is present, and the other one after it is gone
-older_copy_is_seen : answer (box (noon ∷ Arrive M1 ∷ Arrive M2 ∷ Seen 2 ∷ [])) AllChats ≡ Some (codes "single:bob@x.org | Bob | fresh 0 | 2024-05-01 09:00 | Hi there\n")
+older_copy_is_seen : answer (box (noon ∷ Arrive M1 ∷ Arrive M2 ∷ Seen 2 ∷ [])) AllChats
+    ≡ Some (codes "single:bob@x.org | Bob | fresh 0 | 2024-05-01 09:00 | Hi there\n")
 unfolding time_text civil_date span_and_rest digits chars encode
 older_copy_is_seen = refl
 
-older_copy_is_gone : answer (box (noon ∷ Arrive M1 ∷ Arrive M2 ∷ Seen 2 ∷ Expunge 2 ∷ [])) AllChats ≡ Some (codes "single:bob@x.org | Bob | fresh 1 | 2024-05-01 10:00 | Hi\n")
+older_copy_is_gone : answer (box (noon ∷ Arrive M1 ∷ Arrive M2 ∷ Seen 2 ∷ Expunge 2 ∷ [])) AllChats
+    ≡ Some (codes "single:bob@x.org | Bob | fresh 1 | 2024-05-01 10:00 | Hi\n")
 unfolding time_text civil_date span_and_rest digits chars encode
 older_copy_is_gone = refl
 
 -- a date after the arrival counts as the arrival
-no_sender : answer (box (noon ∷ ArriveFault NoFrom ∷ Arrive F2 ∷ [])) AllChats ≡ Some (codes "single:bob@x.org | bob@x.org | fresh 1 | 2024-05-01 12:00 | Late\nfault 1 no From\n")
+no_sender : answer (box (noon ∷ ArriveFault NoFrom ∷ Arrive F2 ∷ [])) AllChats
+    ≡ Some (
+    codes "single:bob@x.org | bob@x.org | fresh 1 | 2024-05-01 12:00 | Late\n"
+    ++ codes "fault 1 no From\n"
+    )
 unfolding time_text civil_date span_and_rest digits chars encode
 no_sender = refl
 
-three_chats : answer (box (At 1714665600 ∷ Arrive H1 ∷ Arrive H2 ∷ Arrive H3 ∷ Arrive G5 ∷ Arrive C1 ∷ [])) AllChats ≡ Some (codes "single:bob@x.org | Bob | fresh 1 | 2024-05-02 11:00 | [...]\ngroup:abcdefghijk | Trip | fresh 1 | 2024-05-02 10:00 | A game\nthread:h1@x.org | Plans | fresh 2 | 2024-05-02 09:00 | [Re: Plans] Agreed.\n")
+three_chats : answer (box (At 1714665600 ∷ Arrive H1 ∷ Arrive H2 ∷ Arrive H3 ∷ Arrive G5 ∷ Arrive C1 ∷ [])) AllChats
+    ≡ Some (
+    codes "single:bob@x.org | Bob | fresh 1 | 2024-05-02 11:00 | [...]\n"
+    ++ codes "group:abcdefghijk | Trip | fresh 1 | 2024-05-02 10:00 | A game\n"
+    ++ codes "thread:h1@x.org | Plans | fresh 2 | 2024-05-02 09:00 | [Re: Plans] Agreed.\n"
+    )
 unfolding time_text civil_date span_and_rest digits chars encode
 three_chats = refl
 
-a_thread : answer (box (At 1714665600 ∷ Arrive H1 ∷ Arrive H2 ∷ Arrive H3 ∷ Arrive G5 ∷ Arrive C1 ∷ [])) (OneChat (Thread (codes "h1@x.org"))) ≡ Some (codes "chat thread:h1@x.org\nname Plans\nmembers ann@x.org, me@x.org, bob@x.org\ntimer 0\n#1 2024-05-02 08:00 ann@x.org new: [Plans] See the file.\n  file application/pdf 5 plan.pdf\n#2 2024-05-02 08:30 bob@x.org new: [Re: Plans] Fine.\n#3 2024-05-02 09:00 me@x.org out: [Re: Plans] Agreed.\n")
+a_thread : answer (box (At 1714665600 ∷ Arrive H1 ∷ Arrive H2 ∷ Arrive H3 ∷ Arrive G5 ∷ Arrive C1 ∷ [])) (OneChat (Thread (codes "h1@x.org")))
+    ≡ Some (
+    codes "chat thread:h1@x.org\n"
+    ++ codes "name Plans\n"
+    ++ codes "members ann@x.org, me@x.org, bob@x.org\n"
+    ++ codes "timer 0\n"
+    ++ codes "#1 2024-05-02 08:00 ann@x.org new: [Plans] See the file.\n"
+    ++ codes "  file application/pdf 5 plan.pdf\n"
+    ++ codes "#2 2024-05-02 08:30 bob@x.org new: [Re: Plans] Fine.\n"
+    ++ codes "#3 2024-05-02 09:00 me@x.org out: [Re: Plans] Agreed.\n"
+    )
 unfolding time_text civil_date span_and_rest digits chars encode
 a_thread = refl
 
-an_app : answer (box (At 1714665600 ∷ Arrive H1 ∷ Arrive H2 ∷ Arrive H3 ∷ Arrive G5 ∷ Arrive C1 ∷ [])) (OneChat (Group trip)) ≡ Some (codes "chat group:abcdefghijk\nname Trip\nmembers ann@x.org, me@x.org, bob@x.org\ntimer 0\n#4 2024-05-02 10:00 ann@x.org new: A game\n  file application/webxdc+zip 4 chess.xdc\n  updates 0\n")
+an_app : answer (box (At 1714665600 ∷ Arrive H1 ∷ Arrive H2 ∷ Arrive H3 ∷ Arrive G5 ∷ Arrive C1 ∷ [])) (OneChat (Group trip))
+    ≡ Some (
+    codes "chat group:abcdefghijk\n"
+    ++ codes "name Trip\n"
+    ++ codes "members ann@x.org, me@x.org, bob@x.org\n"
+    ++ codes "timer 0\n"
+    ++ codes "#4 2024-05-02 10:00 ann@x.org new: A game\n"
+    ++ codes "  file application/webxdc+zip 4 chess.xdc\n"
+    ++ codes "  updates 0\n"
+    )
 unfolding time_text civil_date span_and_rest digits chars encode
 an_app = refl
 
-an_encrypted_mail : answer (box (At 1714665600 ∷ Arrive H1 ∷ Arrive H2 ∷ Arrive H3 ∷ Arrive G5 ∷ Arrive C1 ∷ [])) (OneChat (Single bob)) ≡ Some (codes "chat single:bob@x.org\nname Bob\nmembers me@x.org, bob@x.org\ntimer 0\n#5 2024-05-02 11:00 bob@x.org new: [...]\n  file multipart/encrypted 62 -\n")
+an_encrypted_mail : answer (box (At 1714665600 ∷ Arrive H1 ∷ Arrive H2 ∷ Arrive H3 ∷ Arrive G5 ∷ Arrive C1 ∷ [])) (OneChat (Single bob))
+    ≡ Some (
+    codes "chat single:bob@x.org\n"
+    ++ codes "name Bob\n"
+    ++ codes "members me@x.org, bob@x.org\n"
+    ++ codes "timer 0\n"
+    ++ codes "#5 2024-05-02 11:00 bob@x.org new: [...]\n"
+    ++ codes "  file multipart/encrypted 62 -\n"
+    )
 unfolding time_text civil_date span_and_rest digits chars encode
 an_encrypted_mail = refl
 
-contacts_of_the_day : answer (box (At 1714665600 ∷ Arrive H1 ∷ Arrive H2 ∷ Arrive H3 ∷ Arrive G5 ∷ Arrive C1 ∷ [])) AllContacts ≡ Some (codes "ann@x.org | Ann\nbob@x.org | Bob\n")
+contacts_of_the_day : answer (box (At 1714665600 ∷ Arrive H1 ∷ Arrive H2 ∷ Arrive H3 ∷ Arrive G5 ∷ Arrive C1 ∷ [])) AllContacts
+    ≡ Some (
+    codes "ann@x.org | Ann\n"
+    ++ codes "bob@x.org | Bob\n"
+    )
 unfolding time_text civil_date span_and_rest digits chars encode
 contacts_of_the_day = refl
 
 -- edges
-edited_to_nothing : answer (box (noon ∷ Arrive M1 ∷ Arrive (record E1 { text = [] }) ∷ [])) (OneChat (Single bob)) ≡ Some (codes "chat single:bob@x.org\nname Bob\nmembers me@x.org, bob@x.org\ntimer 0\n#1 2024-05-01 10:00 bob@x.org new:  [edited]\n")
+edited_to_nothing : answer (box (noon ∷ Arrive M1 ∷ Arrive (record E1 { text = [] }) ∷ [])) (OneChat (Single bob))
+    ≡ Some (
+    codes "chat single:bob@x.org\n"
+    ++ codes "name Bob\n"
+    ++ codes "members me@x.org, bob@x.org\n"
+    ++ codes "timer 0\n"
+    ++ codes "#1 2024-05-01 10:00 bob@x.org new:  [edited]\n"
+    )
 unfolding time_text civil_date span_and_rest digits chars encode
 edited_to_nothing = refl
 
-nobody_is_left : answer (box (noon ∷ Arrive (record G1 { to = []; removed = Some ann }) ∷ [])) (OneChat (Group trip)) ≡ Some (codes "chat group:abcdefghijk\nname Trip\nmembers \ntimer 0\n#1 2024-05-01 09:00 ann@x.org new: Welcome\n")
+nobody_is_left : answer (box (noon ∷ Arrive (record G1 { to = []; removed = Some ann }) ∷ [])) (OneChat (Group trip))
+    ≡ Some (
+    codes "chat group:abcdefghijk\n"
+    ++ codes "name Trip\n"
+    ++ codes "members \n"
+    ++ codes "timer 0\n"
+    ++ codes "#1 2024-05-01 09:00 ann@x.org new: Welcome\n"
+    )
 unfolding time_text civil_date span_and_rest digits chars encode
 nobody_is_left = refl
 
 -- of one sender a Delete counts, and the chat stays
-withdrawn : answer (box (noon ∷ Arrive M1 ∷ Arrive (record X2 { from = bob }) ∷ [])) AllChats ≡ Some (codes "single:bob@x.org | Bob | fresh 0 | - | -\n")
+withdrawn : answer (box (noon ∷ Arrive M1 ∷ Arrive (record X2 { from = bob }) ∷ [])) AllChats
+    ≡ Some (codes "single:bob@x.org | Bob | fresh 0 | - | -\n")
 unfolding time_text civil_date span_and_rest digits chars encode
 withdrawn = refl
 

@@ -9,6 +9,7 @@ pub mod Contacts
 pub mod Names
 pub mod Pages
 pub mod Bodies
+pub mod Frames
 pub mod ChatList
 pub mod Times
 pub mod Printed

@@ -1,5 +1,5 @@
 -- The mailbox, how a change changes it, and the rules that it keeps.
-use Rattle.std.specs.Prelude.{ℕ, ◌+◌, ◌≤◌, max, Bool, false, not, ◌||◌, ◌==◌, nat_le, nat_lt, if◌then◌else◌, Option, Some, None, IfSome, Result, Ok, Err, IfOk, IsTrue, List, [], ◌∷◌, ◌++◌, length, map, filter, sum_by}
+use Rattle.std.specs.Prelude.{◌≡◌, ℕ, ◌+◌, ◌≤◌, max, Bool, false, not, ◌||◌, ◌==◌, nat_le, nat_lt, if◌then◌else◌, Option, Some, None, IfSome, Result, Ok, Err, IfOk, IsTrue, List, [], ◌∷◌, ◌++◌, length, map, filter, sum_by}
 use Rattle.std.specs.List.{AllByRecursion}
 use Rattle.std.specs.Option.{option_or}
 use Rattle.kit.specs.Moments.{last_moment}
@@ -9,6 +9,9 @@ use Rattle.card_type.specs.Rules.{is_valid}
 use Rattle.mailbox_model.specs.declared.change.Fault.{Fault}
 use Rattle.mailbox_model.specs.declared.change.Change.{Change}
 use Rattle.mailbox_model.specs.declared.change.Change.TheVariants.{Arrive, ArriveFault, Expunge, Seen, At}
+use Rattle.mailbox_model.specs.declared.item.Held.{Held}
+use Rattle.mailbox_model.specs.declared.item.Held.TheVariants as is_held
+use Rattle.mailbox_model.specs.declared.item.Item.{Item as Outline}
 use Rattle.mailbox_model.specs.Lists.{Bytes}
 
 -- one mail: when it arrived and when it was seen, if it was; its card, or why it has none
@@ -17,6 +20,14 @@ pub record Item : Type 0 where
   pub arrival : ℕ
   pub seen : Option ℕ
   pub mail : Result Card Fault
+
+-- what is told of an item without its card
+abbrev pub held : Result Card Fault → Held
+held (Ok card) = is_held.Card
+held (Err fault) = is_held.Fault fault
+
+abbrev pub outline : Item → Outline
+outline item = record { uid = item.uid; arrival = item.arrival; seen = item.seen; held = held item.mail }
 
 -- the own address, the moment, the next uid and the items
 pub record Mailbox : Type 0 where
@@ -112,3 +123,8 @@ IsValidChange (ArriveFault fault) = Unit {0}
 IsValidChange (Expunge uid) = Unit {0}
 IsValidChange (Seen uid) = Unit {0}
 IsValidChange (At moment) = moment ≤ last_moment
+
+-- each of these is valid, and not full where it comes
+abbrev pub AreAllowed : Mailbox → List Change → Type 0
+AreAllowed m [] = Unit {0}
+AreAllowed m (change ∷ changes) = IsValidChange change × (full m change ≡ false) × AreAllowed (after m change) changes

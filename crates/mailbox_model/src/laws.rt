@@ -6,14 +6,15 @@ ghost use Rattle.std.specs.List.Sorted.{IsStrictlySortedBy, IsPermutation};
 ghost use Rattle.card_type.specs.Keys.{key_eq};
 ghost use Rattle.card_type.specs.Kinds.{has_some};
 ghost use Rattle.card_type.specs.declared.key.ChatKey.{ChatKey};
-ghost use Rattle.mailbox_model.specs.declared.change.Change.{Change as OneChange};
-ghost use Rattle.mailbox_model.specs.declared.links.Cites.{Cites as CitesOf};
+ghost use Rattle.mailbox_model.specs.declared.change.Change.{Change};
+ghost use Rattle.mailbox_model.specs.declared.links.Cites.{Cites};
 ghost use Rattle.mailbox_model.specs.Lists.{Bytes};
-ghost use Rattle.mailbox_model.specs.Mailbox.{Mailbox, empty_mailbox, after, full, IsMailbox, IsValidChange};
+ghost use Rattle.mailbox_model.specs.Mailbox.{Mailbox, empty_mailbox, after, after_all, full, IsMailbox, IsValidChange, AreAllowed};
 ghost use Rattle.mailbox_model.specs.Present.{mail_of, mail_cmp, mails, has_id, same_id, present};
 ghost use Rattle.mailbox_model.specs.Turns.{turn, IsTurn};
 ghost use Rattle.mailbox_model.specs.Chats.{cites, chat, chat_from, chat_mails, has_cites, parent_among, KeepRule};
 ghost use Rattle.mailbox_model.specs.Pages.{keys, page};
+ghost use Rattle.mailbox_model.specs.Frames.{IsChatAlike};
 ghost use Rattle.mailbox_model.specs.ChatList.{list, list_row, list_cmp};
 ghost use Rattle.mailbox_model.specs.Answers.{Question, answer};
 
@@ -21,10 +22,12 @@ ghost use Rattle.mailbox_model.specs.Answers.{Question, answer};
 ///
 /// - `empty`: the empty mailbox of any address keeps them.
 /// - `after`: a change that is valid and not full leads from a mailbox that keeps them to one that does.
+/// - `all`: so do changes one after the other, each of which is valid, and not full where it comes.
 pub fn changes_keep_the_rules()
     ensures empty { (me : Bytes) → IsMailbox (empty_mailbox me) }
-    ensures after { (m : Mailbox) (change : OneChange) → IsMailbox m → IsValidChange change → full m change ≡ false
+    ensures after { (m : Mailbox) (change : Change) → IsMailbox m → IsValidChange change → full m change ≡ false
         → IsMailbox (after m change) }
+    ensures all { (m : Mailbox) (changes : List Change) → IsMailbox m → AreAllowed m changes → IsMailbox (after_all m changes) }
 {}
 
 /// The present cards are the first of each id in mail order.
@@ -45,7 +48,7 @@ pub fn present_is_in_order()
 /// The turn of a change says how it moves the present cards and the moment: an arrival comes in, takes the place of a
 /// later card with its id or stays behind an earlier one, and so on for what leaves and what is seen.
 pub fn changes_move_the_present()
-    ensures { (m : Mailbox) (change : OneChange) → IsMailbox m → IsTurn m (after m change) (turn m change) }
+    ensures { (m : Mailbox) (change : Change) → IsMailbox m → IsTurn m (after m change) (turn m change) }
 {}
 
 /// The chats, which a fold over the cards in mail order gives, are those of the rule.
@@ -54,7 +57,7 @@ pub fn changes_move_the_present()
 ///   its candidates that is the id of an earlier card.
 /// - `only`: any family of chats that keeps the rule is this one.
 pub fn chats_keep_the_rule()
-    ensures rule { (m : Mailbox) (earlier : List CitesOf) (t : CitesOf) (later : List CitesOf)
+    ensures rule { (m : Mailbox) (earlier : List Cites) (t : Cites) (later : List Cites)
         → cites m ≡ earlier ++ t ∷ later → chat m t.spot.id ≡ Some (chat_from t (option_and_then (chat m) (parent_among earlier t))) }
     ensures only { (m : Mailbox) (chat_of : Bytes → ChatKey) → KeepRule chat_of [] (cites m)
         → (id : Bytes) → chat m id ≡ (if has_cites (cites m) id then Some (chat_of id) else None) }
@@ -73,6 +76,13 @@ pub fn list_has_each_chat()
     ensures chats { (m : Mailbox) (key : ChatKey) → list_any (λ row. key_eq key row.key) (list m).rows ≡ has_some (chat_mails m key) }
     ensures pages { (m : Mailbox) (key : ChatKey) → is_some (page m key) ≡ list_any (λ row. key_eq key row.key) (list m).rows }
     ensures order { (m : Mailbox) → IsStrictlySortedBy list_cmp (list m).rows }
+{}
+
+/// A page follows from few things: where two mailboxes have alike the own address, the cards of a chat, who acts on each
+/// of them, which of them are expired, and for a chat with one other the name of that contact, the chat has one page in
+/// both.
+pub fn page_follows_from_its_chat()
+    ensures { (m n : Mailbox) (key : ChatKey) → IsChatAlike m n key → page m key ≡ page n key }
 {}
 
 /// One mailbox has one text: where the own addresses, the moments and the items are equal, each question is answered by

@@ -18,7 +18,8 @@ pub use contact::ContactRow;
 pub use item::{Held, Item};
 pub use laws::{
     changes_keep_the_rules, changes_move_the_present, chats_keep_the_rule,
-    equal_mailboxes_print_alike, list_has_each_chat, present_is_in_order,
+    equal_mailboxes_print_alike, list_has_each_chat, page_follows_from_its_chat,
+    present_is_in_order,
 };
 pub use links::{Cites, Moved};
 pub use list::{FaultRow, ListPage, ListRow};
