@@ -4,6 +4,7 @@ use Rattle.std.specs.Prelude.{codes, replicate}
 use Rattle.std.specs.Fmt.{digits}
 use Rattle.std.specs.Str.{chars}
 use lib.Utf8.{encode}
+use Rattle.card_type.specs.declared.card.Card.{Card}
 use Rattle.card_type.specs.declared.card.Update.{Update}
 use Rattle.card_type.specs.declared.card.Payload.TheVariants.{Absent, Hidden}
 use Rattle.card_type.specs.declared.key.ChatKey.TheVariants.{SelfChat, Single, Group, Thread}
@@ -21,6 +22,42 @@ hidden = record { payload = Hidden; info = None; document = Some (codes "Plan");
 
 abbrev silent : Update
 silent = record { payload = Absent; info = Some (codes "e4"); document = None; summary = None }
+
+-- an answer to a mail of Bob, which refers to one of the group
+abbrev R4 : Card
+R4 = record R1 { date = Some (at 10 30); replies = codes "m1@x.org" ∷ []; references = codes "g1@x.org" ∷ [] }
+
+-- a mail of another group
+abbrev K1 : Card
+K1 = record G1 { id = codes "k1@x.org"; group = Some (codes "kkkkkkkkkkk"); group_name = codes "Other" }
+
+-- a mail that refers to both groups, and to mails that are not there
+abbrev R5 : Card
+R5 = record R1 { replies = []; references = codes "k1@x.org" ∷ codes "gone@x.org" ∷ codes "g1@x.org" ∷ codes "away@x.org" ∷ [] }
+
+-- receipts of Bob and of Ann for a mail of the group
+abbrev N3 : Card
+N3 = record N1 { receipt = Some (codes "g1@x.org") }
+
+abbrev N4 : Card
+N4 = record N2 { from = ann; receipt = Some (codes "g1@x.org") }
+
+-- mails of Bob that are no chat mail, under another name, and without a name
+abbrev P1 : Card
+P1 = record M1 { id = codes "m3@x.org"; date = Some (at 11 0); chat = false }
+
+abbrev P2 : Card
+P2 = record M1 { id = codes "m3@x.org"; from_name = codes "Robert"; date = Some (at 10 1) }
+
+abbrev P3 : Card
+P3 = record M1 { id = codes "m4@x.org"; from_name = []; date = Some (at 10 2); cc = ann ∷ [] }
+
+-- a mail of Ann, and one to Cid that has expired
+abbrev Q1 : Card
+Q1 = record M1 { id = codes "m3@x.org"; from = ann; from_name = codes "Ann" }
+
+abbrev Q2 : Card
+Q2 = record O1 { id = codes "o2@x.org"; to = cid ∷ []; timer = 1; date = Some (at 11 0) }
 
 -- ---- chats
 
@@ -43,7 +80,7 @@ unfolding time_text civil_date span_and_rest digits chars encode
 copies_count = refl
 
 -- the parent is in a chat with one other, which hands nothing on, and no other candidate is tried
-parent_in_single : answer (box (noon ∷ Arrive M1 ∷ Arrive G1 ∷ Arrive (record R1 { date = Some (at 10 30); replies = codes "m1@x.org" ∷ []; references = codes "g1@x.org" ∷ [] }) ∷ [])) (OneChat (Thread (codes "g1@x.org")))
+parent_in_single : answer (box (noon ∷ Arrive M1 ∷ Arrive G1 ∷ Arrive R4 ∷ [])) (OneChat (Thread (codes "g1@x.org")))
     ≡ Some (
     codes "chat thread:g1@x.org\n"
     ++ codes "name Re: Trip\n"
@@ -55,7 +92,7 @@ unfolding time_text civil_date span_and_rest digits chars encode
 parent_in_single = refl
 
 -- the last reference that is there is the parent
-last_reference_first : answer (box (noon ∷ Arrive G1 ∷ Arrive (record G1 { id = codes "k1@x.org"; group = Some (codes "kkkkkkkkkkk"); group_name = codes "Other" }) ∷ Arrive (record R1 { replies = []; references = codes "k1@x.org" ∷ codes "gone@x.org" ∷ codes "g1@x.org" ∷ codes "away@x.org" ∷ [] }) ∷ [])) AllChats
+last_reference_first : answer (box (noon ∷ Arrive G1 ∷ Arrive K1 ∷ Arrive R5 ∷ [])) AllChats
     ≡ Some (
     codes "group:abcdefghijk | Trip | fresh 2 | 2024-05-01 09:30 | [Re: Trip] Count me in\n"
     ++ codes "group:kkkkkkkkkkk | Other | fresh 1 | 2024-05-01 09:00 | Welcome\n"
@@ -146,7 +183,7 @@ subject_of_a_chat_mail : answer (box (noon ∷ Arrive (record M1 { subject = cod
 unfolding time_text civil_date span_and_rest digits chars encode
 subject_of_a_chat_mail = refl
 
-two_readers : answer (box (noon ∷ Arrive (record G1 { from = me; to = ann ∷ bob ∷ [] }) ∷ Arrive (record N1 { receipt = Some (codes "g1@x.org") }) ∷ Arrive (record N2 { from = ann; receipt = Some (codes "g1@x.org") }) ∷ [])) (OneChat (Group trip))
+two_readers : answer (box (noon ∷ Arrive (record G1 { from = me; to = ann ∷ bob ∷ [] }) ∷ Arrive N3 ∷ Arrive N4 ∷ [])) (OneChat (Group trip))
     ≡ Some (
     codes "chat group:abcdefghijk\n"
     ++ codes "name Trip\n"
@@ -214,7 +251,7 @@ stranger_sets_no_timer : answer (box (noon ∷ Arrive G1 ∷ Arrive (record G2 {
 unfolding time_text civil_date span_and_rest digits chars encode
 stranger_sets_no_timer = refl
 
-timer_of_the_last_chat_mail : answer (box (noon ∷ Arrive (record M1 { timer = 60 }) ∷ Arrive (record M1 { id = codes "m3@x.org"; date = Some (at 11 0); chat = false }) ∷ [])) (OneChat (Single bob))
+timer_of_the_last_chat_mail : answer (box (noon ∷ Arrive (record M1 { timer = 60 }) ∷ Arrive P1 ∷ [])) (OneChat (Single bob))
     ≡ Some (
     codes "chat single:bob@x.org\n"
     ++ codes "name Bob\n"
@@ -226,7 +263,7 @@ timer_of_the_last_chat_mail : answer (box (noon ∷ Arrive (record M1 { timer = 
 unfolding time_text civil_date span_and_rest digits chars encode
 timer_of_the_last_chat_mail = refl
 
-last_name_counts : answer (box (noon ∷ Arrive M1 ∷ Arrive (record M1 { id = codes "m3@x.org"; from_name = codes "Robert"; date = Some (at 10 1) }) ∷ Arrive (record M1 { id = codes "m4@x.org"; from_name = []; date = Some (at 10 2); cc = ann ∷ [] }) ∷ [])) AllContacts
+last_name_counts : answer (box (noon ∷ Arrive M1 ∷ Arrive P2 ∷ Arrive P3 ∷ [])) AllContacts
     ≡ Some (
     codes "ann@x.org | ann@x.org\n"
     ++ codes "bob@x.org | Robert\n"
@@ -237,7 +274,7 @@ last_name_counts = refl
 -- ---- the list
 
 -- of one date by key, and where nothing is shown last
-ties_by_key : answer (box (noon ∷ Arrive M1 ∷ Arrive (record M1 { id = codes "m3@x.org"; from = ann; from_name = codes "Ann" }) ∷ Arrive (record O1 { id = codes "o2@x.org"; to = cid ∷ []; timer = 1; date = Some (at 11 0) }) ∷ [])) AllChats
+ties_by_key : answer (box (noon ∷ Arrive M1 ∷ Arrive Q1 ∷ Arrive Q2 ∷ [])) AllChats
     ≡ Some (
     codes "single:ann@x.org | Ann | fresh 1 | 2024-05-01 10:00 | Hi\n"
     ++ codes "single:bob@x.org | Bob | fresh 1 | 2024-05-01 10:00 | Hi\n"

@@ -92,6 +92,7 @@ chat_mails m key = let known = chats m in filter (λ mail. is_chat key (chat_at 
 
 -- ---- the rule, which the chats keep
 
+-- whether one of these has the id
 abbrev pub has_cites : List Cites → Bytes → Bool
 has_cites ts id = list_any (λ e. bytes_eq id e.spot.id) ts
 

@@ -27,7 +27,8 @@ pub fn changes_keep_the_rules()
     ensures empty { (me : Bytes) → IsMailbox (empty_mailbox me) }
     ensures after { (m : Mailbox) (change : Change) → IsMailbox m → IsValidChange change → full m change ≡ false
         → IsMailbox (after m change) }
-    ensures all { (m : Mailbox) (changes : List Change) → IsMailbox m → AreAllowed m changes → IsMailbox (after_all m changes) }
+    ensures all { (m : Mailbox) (changes : List Change) → IsMailbox m → AreAllowed m changes
+        → IsMailbox (after_all m changes) }
 {}
 
 /// The present cards are the first of each id in mail order.
@@ -58,7 +59,8 @@ pub fn changes_move_the_present()
 /// - `only`: any family of chats that keeps the rule is this one.
 pub fn chats_keep_the_rule()
     ensures rule { (m : Mailbox) (earlier : List Cites) (t : Cites) (later : List Cites)
-        → cites m ≡ earlier ++ t ∷ later → chat m t.spot.id ≡ Some (chat_from t (option_and_then (chat m) (parent_among earlier t))) }
+        → cites m ≡ earlier ++ t ∷ later
+        → chat m t.spot.id ≡ Some (chat_from t (option_and_then (chat m) (parent_among earlier t))) }
     ensures only { (m : Mailbox) (chat_of : Bytes → ChatKey) → KeepRule chat_of [] (cites m)
         → (id : Bytes) → chat m id ≡ (if has_cites (cites m) id then Some (chat_of id) else None) }
 {}
@@ -73,8 +75,10 @@ pub fn chats_keep_the_rule()
 pub fn list_has_each_chat()
     ensures rows { (m : Mailbox) → IsPermutation (map (list_row m) (keys m)) (list m).rows }
     ensures once { (m : Mailbox) → IsDistinct key_eq (keys m) }
-    ensures chats { (m : Mailbox) (key : ChatKey) → list_any (λ row. key_eq key row.key) (list m).rows ≡ has_some (chat_mails m key) }
-    ensures pages { (m : Mailbox) (key : ChatKey) → is_some (page m key) ≡ list_any (λ row. key_eq key row.key) (list m).rows }
+    ensures chats { (m : Mailbox) (key : ChatKey)
+        → list_any (λ row. key_eq key row.key) (list m).rows ≡ has_some (chat_mails m key) }
+    ensures pages { (m : Mailbox) (key : ChatKey)
+        → is_some (page m key) ≡ list_any (λ row. key_eq key row.key) (list m).rows }
     ensures order { (m : Mailbox) → IsStrictlySortedBy list_cmp (list m).rows }
 {}
 
