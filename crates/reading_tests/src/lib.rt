@@ -4,6 +4,8 @@
 #[cfg(test)]
 mod addresses;
 #[cfg(test)]
+mod boxes;
+#[cfg(test)]
 mod dates;
 #[cfg(test)]
 mod flowed;
