@@ -1,5 +1,5 @@
 -- How many bytes were dropped.
-use Rattle.std.proofs.Common.{◌≡◌, ℕ, ◌+◌, ◌≤◌, ◌<◌, List, [], ◌∷◌, ◌++◌, length, take, refl, sym, ap, ◌∙◌, append_assoc, arith, length-append, Option, None, Some}
+use Rattle.std.proofs.Common.{◌≡◌, ℕ, ◌+◌, ◌≤◌, List, [], ◌++◌, length, take, refl, ap, ◌∙◌, arith, length-append, Option}
 use Rattle.std.proofs.lemmas.List.{append-nil, length-take-le}
 use Rattle.mboxrd.specs.Feeding.{Feeding, Took}
 use Rattle.mboxrd.specs.Passing.{Drops}

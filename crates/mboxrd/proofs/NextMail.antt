@@ -1,16 +1,16 @@
 -- The mails of lines, by the halves at their first separator.
-use Rattle.std.proofs.Common.{◌≡◌, ◌≢◌, ℕ, zero, suc, ◌+◌, ◌-◌, ◌≤◌, Bool, true, false, cond, ◌&&◌, List, [], ◌∷◌, ◌++◌, length, drop, flat_map, refl, sym, ap, subst, ◌∙◌, append_assoc, arith, length-append, inl, inr}
-use Rattle.std.proofs.lemmas.Bool.{eq-eqb, ne_eqb, eqb-true, eqb-false, cond_both, cases_eq, cases_Bool}
-use Rattle.std.proofs.lemmas.List.{append-nil}
-use Rattle.std.specs.Prelude.{◌==◌, if◌then◌else◌}
+use Rattle.std.proofs.Common.{◌≡◌, ℕ, ◌+◌, ◌≤◌, Bool, true, false, ◌&&◌, List, [], ◌∷◌, ◌++◌, length, drop, flat_map, refl, sym, ap, ◌∙◌, append_assoc, arith, length-append, inl, inr}
+use Rattle.std.proofs.lemmas.Bool.{cases_eq, cases_Bool}
+use Rattle.std.specs.Prelude.{if◌then◌else◌}
 use Rattle.std.specs.List.{concat, onto_first}
-use Rattle.kit.specs.Lines.{put_before, raw_lines}
+use Rattle.kit.specs.Lines.{raw_lines}
 use Rattle.mboxrd.specs.Mails.{is_empty_line}
-use Rattle.mboxrd.specs.Mails.{begins_from, unquoted, unclosed, groups, mail_bytes, mails_of, mails_after_first, mails_from, Mail}
+use Rattle.mboxrd.specs.Mails.{begins_from, unquoted, unclosed, groups, mails_of, mails_after_first, mails_from, Mail}
 use Rattle.mboxrd.specs.Halves.{Halves, push, halves, glue, head_line, tail_lines, from_text}
 use Rattle.mboxrd.specs.Coming.{coming}
 use Rattle.mboxrd.specs.declared.spot.Closing.TheVariants.{Front}
 use Rattle.mboxrd.specs.declared.spot.Spot.TheVariants.{Separator, Start}
+use Rattle.kit.proofs.LineLemmas.{concat-raw_lines}
 use Rattle.mboxrd.proofs.GluedLines.{glue_from, not_empty, unquoted_other}
 
 hd : List (List (List ℕ)) → List (List ℕ)
@@ -30,14 +30,6 @@ skipped : (at : ℕ) (gs : List (List (List ℕ))) → mails_after_first at gs �
 unfolding hd tl
 skipped at [] = refl
 skipped at (g ∷ gs) = refl
-
-pub concat_raw : (bs : List ℕ) → concat (raw_lines bs) ≡ bs
-concat_raw [] = refl
-concat_raw (b ∷ bs) = go (raw_lines bs) ∙ ap (λ l. b ∷ l) (concat_raw bs)
-  where
-    go : (ls : List (List ℕ)) → concat (put_before b ls) ≡ b ∷ concat ls
-    go [] = refl
-    go (l ∷ ls) = cond_both (b == 10) ((b ∷ []) ∷ l ∷ ls) ((b ∷ l) ∷ ls) (λ (x : List (List ℕ)). concat x ≡ b ∷ concat (l ∷ ls)) (λ e. refl) (λ e. refl)
 
 empty_unquoted : (l : List ℕ) → is_empty_line l ≡ true → unquoted l ≡ l
 empty_unquoted [] e = refl
@@ -121,8 +113,8 @@ mail_from at x rest m end h len =
     let s = from_text ++ head_line ls in
     let g = hd (groups false (tail_lines ls)) in
     let k = halves false [] (tail_lines ls) in
-    let whole : length (concat (s ∷ tail_lines ls)) ≡ length (from_text ++ x) = ap (λ z. length (concat z)) (sym (glue_from ls)) ∙ ap length (concat_raw (from_text ++ x)) in
-    let behind : length (concat k.rest) ≡ length rest = ap (λ (z : Halves). length (concat z.rest)) h ∙ ap length (concat_raw rest) in
+    let whole : length (concat (s ∷ tail_lines ls)) ≡ length (from_text ++ x) = ap (λ z. length (concat z)) (sym (glue_from ls)) ∙ ap length (concat-raw_lines (from_text ++ x)) in
+    let behind : length (concat k.rest) ≡ length rest = ap (λ (z : Halves). length (concat z.rest)) h ∙ ap length (concat-raw_lines rest) in
     let there : at + length (concat (s ∷ g)) ≡ end =
     omega (arith, len, whole, behind, len_of false [] (tail_lines ls), length-append s (concat g), length-append s (concat (tail_lines ls))) in
     let made : List ℕ → ℕ → Mail = λ b e. record { bytes = b; end = e } in
@@ -137,8 +129,8 @@ mails_behind at x rest m next h len =
     let ls = raw_lines x in
     let r : (halves true [] ls).rest ≡ raw_lines rest = ap (λ (k : Halves). k.rest) h in
     let sum : length (concat (hd (groups true ls))) + length rest ≡ length x =
-    ap (λ k. length (concat (hd (groups true ls))) + length k) (sym (concat_raw rest)) ∙ ap (λ k. length (concat (hd (groups true ls))) + length (concat k)) (sym r)
-    ∙ len_of true [] ls ∙ ap length (concat_raw x) in
+    ap (λ k. length (concat (hd (groups true ls))) + length k) (sym (concat-raw_lines rest)) ∙ ap (λ k. length (concat (hd (groups true ls))) + length (concat k)) (sym r)
+    ∙ len_of true [] ls ∙ ap length (concat-raw_lines x) in
     let place : at + length (concat (hd (groups true ls))) ≡ next = omega arith in
     skipped at (groups true ls) ∙ rest_of (at + length (concat (hd (groups true ls)))) true [] ls ∙ ap (λ k. mails_after_first (at + length (concat (hd (groups true ls)))) (groups true k)) r
     ∙ ap (λ k. mails_from k rest) place
@@ -148,7 +140,7 @@ pub behind_len : (x rest m : List ℕ) → coming (Start Front) x ≡ record { m
 unfolding coming
 behind_len x rest m h =
     let ls = raw_lines x in
-    omega (arith, len_of true [] ls, ap length (concat_raw x), ap length (concat_raw rest), ap (λ (k : Halves). length (concat k.rest)) h)
+    omega (arith, len_of true [] ls, ap length (concat-raw_lines x), ap length (concat-raw_lines rest), ap (λ (k : Halves). length (concat k.rest)) h)
 
 -- the lines up to the next separator and those from it on are all the lines
 bytes_of : (may : Bool) (closing : List ℕ) (ls : List (List ℕ)) → concat (hd (groups may ls)) ++ concat (halves may closing ls).rest ≡ concat ls
@@ -166,7 +158,7 @@ pub ends_in_from : (x rest m : List ℕ) → coming (Start Front) x ≡ record {
 unfolding coming
 ends_in_from x rest m h =
     let ls = raw_lines x in
-    (concat (hd (groups true ls)), sym (concat_raw x) ∙ sym (bytes_of true [] ls) ∙ ap (λ (k : Halves). concat (hd (groups true ls)) ++ concat k.rest) h ∙ ap (λ z. concat (hd (groups true ls)) ++ z) (concat_raw rest))
+    (concat (hd (groups true ls)), sym (concat-raw_lines x) ∙ sym (bytes_of true [] ls) ∙ ap (λ (k : Halves). concat (hd (groups true ls)) ++ concat k.rest) h ∙ ap (λ z. concat (hd (groups true ls)) ++ z) (concat-raw_lines rest))
 
 pub mail_ends_in_from : (x rest m : List ℕ) → coming Separator x ≡ record { mail = m; rest = raw_lines rest } → (front : List ℕ) × (from_text ++ x ≡ front ++ rest)
 unfolding coming
@@ -175,6 +167,6 @@ mail_ends_in_from x rest m h =
     let s = from_text ++ head_line ls in
     let g = concat (hd (groups false (tail_lines ls))) in (
       s ++ g,
-      sym (concat_raw (from_text ++ x)) ∙ ap concat (glue_from ls) ∙ ap (λ z. s ++ z) (sym (bytes_of false [] (tail_lines ls)))
-          ∙ ap (λ (k : Halves). s ++ (g ++ concat k.rest)) h ∙ ap (λ z. s ++ (g ++ z)) (concat_raw rest) ∙ sym (append_assoc s g rest),
+      sym (concat-raw_lines (from_text ++ x)) ∙ ap concat (glue_from ls) ∙ ap (λ z. s ++ z) (sym (bytes_of false [] (tail_lines ls)))
+          ∙ ap (λ (k : Halves). s ++ (g ++ concat k.rest)) h ∙ ap (λ z. s ++ (g ++ z)) (concat-raw_lines rest) ∙ sym (append_assoc s g rest),
     )

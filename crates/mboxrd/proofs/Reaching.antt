@@ -1,16 +1,14 @@
 -- The mails from where a reader stands.
-use Rattle.std.proofs.Common.{◌≡◌, ℕ, ◌+◌, ◌-◌, ◌≤◌, Bool, true, false, List, [], ◌∷◌, ◌++◌, length, refl, sym, ap, subst, ◌∙◌, append_assoc, arith, length-append, Option, None, Some}
+use Rattle.std.proofs.Common.{◌≡◌, ℕ, ◌+◌, ◌-◌, ◌≤◌, Bool, true, false, List, [], ◌∷◌, ◌++◌, length, refl, sym, ap, subst, ◌∙◌, append_assoc, arith, length-append, Option}
 use Rattle.std.proofs.lemmas.List.{append-nil}
-use Rattle.kit.specs.Lines.{raw_lines}
-use Rattle.mboxrd.specs.Mails.{Mail}
 use Rattle.mboxrd.specs.declared.spot.Closing.TheVariants.{Front}
 use Rattle.mboxrd.specs.declared.spot.Spot.TheVariants.{Separator, Start}
-use Rattle.mboxrd.specs.Halves.{Halves, from_text}
-use Rattle.mboxrd.specs.Mails.{mails_from}
+use Rattle.mboxrd.specs.Halves.{from_text}
+use Rattle.mboxrd.specs.Mails.{Mail, mails_from}
 use Rattle.mboxrd.specs.Coming.{coming}
 use Rattle.mboxrd.specs.Feeding.{Feeding, Took}
-use Rattle.mboxrd.specs.Standing.{Reading, position, behind, Takes}
-use Rattle.mboxrd.specs.Passing.{Leaves, Passes, Unfinished, MayCome, SameMails, OneMail, AtMostOne}
+use Rattle.mboxrd.specs.Standing.{Reading, behind, Takes}
+use Rattle.mboxrd.specs.Passing.{Leaves, Passes, Unfinished, SameMails, OneMail, AtMostOne}
 use Rattle.mboxrd.proofs.NextMail.{mail_from, mails_behind, behind_len, ends_in_from, mail_ends_in_from}
 
 abbrev pub reading : Feeding → ℕ → Bool → Bool → Reading
@@ -71,8 +69,8 @@ one_at_most a p r piece within u =
     let e = mail_from at (a.held ++ piece) [] u.0 (at + length (from_text ++ (a.held ++ piece))) u.1 (omega arith) in
     omega (arith, ap length e)
 
-pub goes_took : (l m : Option (List ℕ)) (a b : Feeding) (p q : ℕ) (r v : Bool) (s t : Bool) (piece : List ℕ) → Took l m a b piece → Takes l m (reading a p s r) (reading b q t v) piece
-goes_took l m a b p q r v s t piece h = record { left = h.left; taken = h.taken; budget = h.budget }
+pub takes_took : (l m : Option (List ℕ)) (a b : Feeding) (p q : ℕ) (r v : Bool) (s t : Bool) (piece : List ℕ) → Took l m a b piece → Takes l m (reading a p s r) (reading b q t v) piece
+takes_took l m a b p q r v s t piece h = record { left = h.left; taken = h.taken; budget = h.budget }
 
 -- what is held is no more than what was taken, with the separator in front too
 pub fits_cut : (a b : Feeding) (piece eaten sent : List ℕ) (cut : Bool) → length a.held ≤ a.taken → b.taken ≡ a.taken + length piece → length b.held ≤ b.taken
@@ -98,9 +96,6 @@ mail_leaves a b p q r v piece eaten sent true met passes =
 mail_leaves a b p q r v piece eaten sent false met passes = (from_text ++ eaten, ap (λ z. from_text ++ z) met)
 
 -- the same, of a reader whose value is another name for these fields
-abbrev Went : Option (List ℕ) → Option (List ℕ) → Reading → List ℕ → Reading → (Reading → Type 0) → Type 0
-Went l m old piece new P = Takes l m old new piece × P old
-
 as_reading : (P : Reading → Type 0) (f : Feeding) (p : ℕ) (r : Bool) (s t : Bool) (old : Reading) → reading f p s r ≡ old → s ≡ t → P (reading f p t r) → P old
 as_reading P f p r s t old view is h = let Q : Bool → Type 0 = λ z. P (reading f p z r) in subst P view (subst Q (sym is) h)
 
@@ -112,26 +107,26 @@ pub reach_ok : (l m : Option (List ℕ)) (old : Reading) (f b : Feeding) (s cut 
     → Passes (Start Front) eaten sent cut → Takes l m old (reading b q cut v) piece × (SameMails old piece (reading b q cut v) × Leaves old piece (reading b q cut v))
 reach_ok l m old f b s cut p q r v piece eaten sent view is within took met none passes =
     as_reading (λ o. Takes l m o (reading b q cut v) piece × (SameMails o piece (reading b q cut v) × Leaves o piece (reading b q cut v))) f p r s false old view is
-    (goes_took l m f b p q r v false cut piece took, (reaches f b p q r v piece eaten sent cut (fits_as f s false is within) took.taken met none passes, reach_leaves f b p q r v piece eaten sent cut met passes))
+    (takes_took l m f b p q r v false cut piece took, (reaches f b p q r v piece eaten sent cut (fits_as f s false is within) took.taken met none passes, reach_leaves f b p q r v piece eaten sent cut met passes))
 
 pub reach_err : (l m : Option (List ℕ)) (old : Reading) (f b : Feeding) (s t : Bool) (p q : ℕ) (r v : Bool) (piece : List ℕ) (E : Type 0)
     → reading f p s r ≡ old → s ≡ false → Took l m f b piece → (E → Unfinished (Start Front) (f.held ++ piece)) → Takes l m old (reading b q t v) piece × (E → AtMostOne old piece)
 reach_err l m old f b s t p q r v piece E view is took u =
     as_reading (λ o. Takes l m o (reading b q t v) piece × (E → AtMostOne o piece)) f p r s false old view is
-    (goes_took l m f b p q r v false t piece took, λ e. reaches_none f p r piece (u e))
+    (takes_took l m f b p q r v false t piece took, λ e. reaches_none f p r piece (u e))
 
 pub mail_ok : (l m : Option (List ℕ)) (old : Reading) (f b : Feeding) (s cut : Bool) (p q : ℕ) (r v : Bool) (piece eaten sent : List ℕ)
     → reading f p s r ≡ old → s ≡ true → length (behind s f.held) ≤ f.taken → Took l m f b piece → f.held ++ piece ≡ eaten ++ b.held → (cut ≡ false → b.held ≡ [])
     → Passes Separator eaten sent cut → Takes l m old (reading b q cut v) piece × OneMail old piece sent (reading b q cut v) × Leaves old piece (reading b q cut v)
 mail_ok l m old f b s cut p q r v piece eaten sent view is within took met none passes =
     as_reading (λ o. Takes l m o (reading b q cut v) piece × OneMail o piece sent (reading b q cut v) × Leaves o piece (reading b q cut v)) f p r s true old view is
-    (goes_took l m f b p q r v true cut piece took, one_mail f b p q r v piece eaten sent cut (fits_as f s true is within) took.taken met none passes, mail_leaves f b p q r v piece eaten sent cut met passes)
+    (takes_took l m f b p q r v true cut piece took, one_mail f b p q r v piece eaten sent cut (fits_as f s true is within) took.taken met none passes, mail_leaves f b p q r v piece eaten sent cut met passes)
 
 pub mail_err : (l m : Option (List ℕ)) (old : Reading) (f b : Feeding) (s t : Bool) (p q : ℕ) (r v : Bool) (piece : List ℕ) (E : Type 0)
     → reading f p s r ≡ old → s ≡ true → length (behind s f.held) ≤ f.taken → Took l m f b piece → (E → Unfinished Separator (f.held ++ piece)) → Takes l m old (reading b q t v) piece × (E → AtMostOne old piece)
 mail_err l m old f b s t p q r v piece E view is within took u =
     as_reading (λ o. Takes l m o (reading b q t v) piece × (E → AtMostOne o piece)) f p r s true old view is
-    (goes_took l m f b p q r v true t piece took, λ e. one_at_most f p r piece (fits_as f s true is within) (u e))
+    (takes_took l m f b p q r v true t piece took, λ e. one_at_most f p r piece (fits_as f s true is within) (u e))
 
 pub reach_fits : (a b : Feeding) (s : Bool) (piece eaten sent : List ℕ) (cut : Bool) → s ≡ false → length (behind s a.held) ≤ a.taken → b.taken ≡ a.taken + length piece → length b.held ≤ b.taken
     → a.held ++ piece ≡ eaten ++ b.held → Passes (Start Front) eaten sent cut → length (behind cut b.held) ≤ b.taken

@@ -1,5 +1,5 @@
 -- What each kind of byte does at each spot.
-use Rattle.std.proofs.Common.{◌≡◌, ◌≢◌, ℕ, zero, suc, ◌+◌, ◌<◌, ◌≤◌, codes, Bool, true, false, cond, ◌&&◌, List, [], ◌∷◌, ◌++◌, length, take, drop, subst, refl, sym, ap, ◌∙◌, append_assoc, arith}
+use Rattle.std.proofs.Common.{◌≡◌, ◌≢◌, ℕ, zero, suc, ◌+◌, ◌<◌, codes, Bool, true, false, ◌&&◌, List, [], ◌∷◌, ◌++◌, length, take, subst, refl, sym, ap, ◌∙◌, append_assoc, arith}
 use Rattle.std.proofs.lemmas.Bool.{eq-eqb, ne_eqb, eqb-true, eqb-false, cond_both}
 use Rattle.std.proofs.lemmas.List.{take_all}
 use Rattle.std.specs.Prelude.{slice_index, ◌==◌, Option, Some, None}
@@ -7,13 +7,13 @@ use Rattle.memchr.specs.Find.{IsFirstByte, Nowhere, Passes, is_byte}
 use Rattle.kit.specs.Lines.{put_before, raw_lines}
 use Rattle.mboxrd.specs.Mails.{is_empty_line}
 use Rattle.mboxrd.specs.Mails.{begins_from, unquoted}
-use Rattle.mboxrd.specs.Halves.{Halves, push, halves, glue, head_line, tail_lines, from_text}
+use Rattle.mboxrd.specs.Halves.{Halves, push, halves, head_line, from_text}
 use Rattle.mboxrd.specs.Coming.{after_byte, coming, Turns, EndsWith, IsSpot, lines_from, may_separate, closing_bytes}
 use Rattle.mboxrd.specs.declared.spot.Closing.{Closing}
 use Rattle.mboxrd.specs.declared.spot.Closing.TheVariants.{Text, Front, Lf, CrLf}
 use Rattle.mboxrd.specs.declared.spot.Spot.{Spot}
 use Rattle.mboxrd.specs.declared.spot.Spot.TheVariants.{Separator, Start, From, Quote, Cr, Inside}
-use Rattle.mboxrd.proofs.GluedLines.{in_line, put_lf, put_glue, glue_glue, glue_from, Stays, settles, ends, not_empty, not_empty_cr, unquoted_other, unquoted_quote, unquoted_quotes, no_from}
+use Rattle.mboxrd.proofs.GluedLines.{put_lf, put_glue, glue_glue, glue_from, settles, ends, not_empty, not_empty_cr, unquoted_other, unquoted_quote, unquoted_quotes, no_from}
 
 and_false : (b c : Bool) → c ≡ false → (b && c) ≡ false
 and_false true c e = e

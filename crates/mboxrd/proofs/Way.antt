@@ -1,15 +1,11 @@
 -- How far a reader came on its way to the next separator.
-use Rattle.std.proofs.Common.{◌≡◌, ℕ, zero, suc, ◌+◌, ◌-◌, ◌*◌, ◌<◌, ◌≤◌, Bool, true, false, List, [], ◌∷◌, ◌++◌, length, take, refl, sym, ap, subst, ◌∙◌, append_assoc, arith, length-append, Option, None, Some}
+use Rattle.std.proofs.Common.{◌≡◌, ℕ, Bool, true, false, List, [], ◌++◌, take, refl, sym, ap, subst, ◌∙◌, append_assoc, Option, None, Some}
 use Rattle.std.proofs.lemmas.List.{append-nil}
-use Rattle.std.specs.Io.KnownBytes.{Consumes}
-use Rattle.std.proofs.KnownBytes.{Consumes-nil}
-use Rattle.kit.specs.Lines.{raw_lines}
-use Rattle.std.proofs.Common.{Err, Result}
 use Rattle.mboxrd.specs.declared.fault.BoxFault.{BoxFault}
 use Rattle.mboxrd.specs.declared.fault.BoxFault.TheVariants.{Memory, Endless}
 use Rattle.mboxrd.specs.declared.spot.Spot.{Spot}
 use Rattle.mboxrd.specs.declared.spot.Spot.TheVariants.{Separator, Start, From, Quote, Cr, Inside}
-use Rattle.mboxrd.specs.Halves.{Halves, push, from_text}
+use Rattle.mboxrd.specs.Halves.{Halves, push}
 use Rattle.mboxrd.specs.Coming.{coming, IsSpot, Turns, EndsWith}
 use Rattle.mboxrd.specs.Feeding.{Feeding, Took}
 use Rattle.mboxrd.specs.Keeping.{Front, Keeps}

@@ -1,5 +1,5 @@
 -- What a reader meets on its way to the next separator, or to the end, and what it answers.
-use Rattle.std.specs.Prelude.{◌≡◌, ◌≤◌, ◌<◌, ℕ, Bool, true, false, List, [], ◌∷◌, ◌++◌, length, Option, Some, None, ⊤, min}
+use Rattle.std.specs.Prelude.{◌≡◌, ◌≤◌, ◌<◌, ℕ, Bool, true, false, List, [], ◌∷◌, ◌++◌, length, Option, Some, None, ⊤}
 use Rattle.kit.specs.Lines.{raw_lines}
 use Rattle.mboxrd.specs.declared.spot.Spot.{Spot}
 use Rattle.mboxrd.specs.declared.taken.Taken.{Taken}
@@ -60,7 +60,8 @@ Answers old piece answer new = (rest : List ℕ) → MayCome new rest
 abbrev pub Drops : List ℕ → List ℕ → ℕ → List ℕ → Type 0
 Drops held piece count after = (dropped : List ℕ) × (held ++ piece ≡ dropped ++ after) × (length dropped ≡ count)
 
--- where a source tells what it has left, before and after a call
+-- where a source tells what it has left, it tells so after the call, too, and this holds of what it had and has left
 abbrev pub IfTells : Option (List ℕ) → Option (List ℕ) → (List ℕ → List ℕ → Type 0) → Type 0
+IfTells None after P = ⊤
+IfTells (Some before) None P = ⊥
 IfTells (Some before) (Some after) P = P before after
-IfTells _ _ P = ⊤

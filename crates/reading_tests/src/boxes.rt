@@ -38,6 +38,26 @@ const BOXES: [(&str, &str); 14] = [
     ("From -\n\n>>From", "[\n>>From|14]end"),
 ];
 
+/// A mail and the place where it ended.
+fn written(alloc: Global, mail: &[u8], place: u64) -> Result<String, Fail> {
+    let mail = String::from_utf8_lossy(alloc, mail)?;
+    Ok(format!(in alloc; "[{mail}|{place}]")?)
+}
+
+/// An answer, and the place behind it.
+fn answer(
+    alloc: Global,
+    taken: Result<Taken, BoxFault>,
+    place: u64,
+) -> Result<String, Fail> {
+    match taken {
+        Ok(Taken::Mail(mail)) => written(alloc, &mail, place),
+        Ok(Taken::TooLong) => Ok(format!(in alloc; "long|{place} ")?),
+        Ok(Taken::End) => Ok(format!(in alloc; "end")?),
+        Err(fault) => Ok(format!(in alloc; "{fault:?}")?),
+    }
+}
+
 /// What a reader answers, up to the end or a refusal.
 fn answers<S: Source>(
     alloc: Global,
@@ -48,20 +68,11 @@ fn answers<S: Source>(
 {
     let mut text = String::new(alloc);
     for _ in 0..10 {
-        match reader.next(alloc, source) {
-            Ok(Taken::Mail(bytes)) => {
-                let mail = String::from_utf8_lossy(alloc, &bytes)?;
-                text.push_str(&format!(in alloc; "[{mail}|{}]", reader.place())?)?;
-            }
-            Ok(Taken::TooLong) => text.push_str("long ")?,
-            Ok(Taken::End) => {
-                text.push_str("end")?;
-                return Ok(text);
-            }
-            Err(fault) => {
-                text.push_str(&format!(in alloc; "{fault:?}")?)?;
-                return Ok(text);
-            }
+        let taken = reader.next(alloc, source);
+        let goes_on = matches!(&taken, Ok(Taken::Mail(_) | Taken::TooLong));
+        text.push_str(&answer(alloc, taken, reader.place())?)?;
+        if !goes_on {
+            return Ok(text);
         }
     }
     Ok(text)
@@ -154,7 +165,7 @@ fn a_mail_that_is_too_long_is_passed_over(rt: HostRuntime) -> Result<(), Fail> {
     let mut source = long_box(alloc, 67_108_865)?;
     let mut reader = MboxReader::new(alloc, 65536, 1 << 36)?;
     let found = answers(alloc, &mut reader, &mut source)?;
-    assert_eq!(rt; found.as_str(), "long [short\n|67108886]end");
+    assert_eq!(rt; found.as_str(), "long|67108873 [short\n|67108886]end");
     Ok(())
 }
 

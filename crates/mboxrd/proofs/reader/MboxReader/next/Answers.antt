@@ -10,62 +10,62 @@ returns-in_err-bytes-clause-took g c =
     let t = c.in_err-bytes.ensures.took in
     let p = err_from_is_err_and c.from_residual-in_err-bytes.result c.from_residual-in_err-bytes.ensures.1 in
     let q = p.2 in
-    let begun : c.reach.new.self.at_separator ≡ true = sym c.in_ok-found.ensures.found ∙ c.if-not-found.false in (
+    let met : c.reach.new.self.at_separator ≡ true = sym c.in_ok-found.ensures.found ∙ c.if-not-found.false in (
       s.0 ++ t.0,
       Takes_more _ _ _ c.args.self.now c.reach.new.self c.read_mail.new.self s.0 t.0 s.1 t.1,
-      rw p.1 (λ e. both_most c.args.self.now c.reach.new.self s.0 t.0 begun s.2.0 (t.2 (sym q ∙ e))),
+      rw p.1 (λ e. both_most c.args.self.now c.reach.new.self s.0 t.0 met s.2.0 (t.2 (sym q ∙ e))),
     )
 
 pub returns-then-len-gt-LONGEST-clause-took : goal.returns-then-len-gt-LONGEST-clause-took
 returns-then-len-gt-LONGEST-clause-took g c =
     let s = c.in_ok-found.ensures.took in
     let t = c.in_ok-bytes.ensures.took in
-    let begun : c.reach.new.self.at_separator ≡ true = sym c.in_ok-found.ensures.found ∙ c.if-not-found.false in
-    let goes = Takes_more (g.S.Source.left c.args.source.now) (g.S.Source.left c.reach.new.source) (g.S.Source.left c.read_mail.new.source) c.args.self.now c.reach.new.self c.read_mail.new.self s.0 t.0 s.1 t.1 in
-    let ans = answers_long c.args.self.now c.reach.new.self c.read_mail.new.self s.0 t.0 t.2.0 c.in_ok-bytes.bytes.items begun s.2.0 t.2.2 c.in_ok-bytes.ensures.place t.2.1 (omega (arith, c.if-len-gt-LONGEST.true, c.len.ensures)) in
-    (s.0 ++ t.0, goes, (ans, leaves_more c.args.self.now c.reach.new.self c.read_mail.new.self s.0 t.0 s.2.1 t.2.3))
+    let met : c.reach.new.self.at_separator ≡ true = sym c.in_ok-found.ensures.found ∙ c.if-not-found.false in
+    let takes = Takes_more (g.S.Source.left c.args.source.now) (g.S.Source.left c.reach.new.source) (g.S.Source.left c.read_mail.new.source) c.args.self.now c.reach.new.self c.read_mail.new.self s.0 t.0 s.1 t.1 in
+    let ans = answers_long c.args.self.now c.reach.new.self c.read_mail.new.self s.0 t.0 t.2.0 c.in_ok-bytes.bytes.items met s.2.0 t.2.2 c.in_ok-bytes.ensures.place t.2.1 (omega (arith, c.if-len-gt-LONGEST.true, c.len.ensures)) in
+    (s.0 ++ t.0, takes, (ans, leaves_more c.args.self.now c.reach.new.self c.read_mail.new.self s.0 t.0 s.2.1 t.2.3))
 
 pub returns-then-len-gt-LONGEST-clause-answer : goal.returns-then-len-gt-LONGEST-clause-answer
 returns-then-len-gt-LONGEST-clause-answer g c =
     let s = c.in_ok-found.ensures.took in
     let t = c.in_ok-bytes.ensures.took in
-    let begun : c.reach.new.self.at_separator ≡ true = sym c.in_ok-found.ensures.found ∙ c.if-not-found.false in
-    let goes = Takes_more (g.S.Source.left c.args.source.now) (g.S.Source.left c.reach.new.source) (g.S.Source.left c.read_mail.new.source) c.args.self.now c.reach.new.self c.read_mail.new.self s.0 t.0 s.1 t.1 in
-    let ans = answers_long c.args.self.now c.reach.new.self c.read_mail.new.self s.0 t.0 t.2.0 c.in_ok-bytes.bytes.items begun s.2.0 t.2.2 c.in_ok-bytes.ensures.place t.2.1 (omega (arith, c.if-len-gt-LONGEST.true, c.len.ensures)) in
-    told (g.S.Source.left c.args.source.now) (g.S.Source.left c.read_mail.new.source) c.args.self.now c.read_mail.new.self (s.0 ++ t.0) taken.TooLong goes c.in_ok-bytes.ensures.end ans
+    let met : c.reach.new.self.at_separator ≡ true = sym c.in_ok-found.ensures.found ∙ c.if-not-found.false in
+    let takes = Takes_more (g.S.Source.left c.args.source.now) (g.S.Source.left c.reach.new.source) (g.S.Source.left c.read_mail.new.source) c.args.self.now c.reach.new.self c.read_mail.new.self s.0 t.0 s.1 t.1 in
+    let ans = answers_long c.args.self.now c.reach.new.self c.read_mail.new.self s.0 t.0 t.2.0 c.in_ok-bytes.bytes.items met s.2.0 t.2.2 c.in_ok-bytes.ensures.place t.2.1 (omega (arith, c.if-len-gt-LONGEST.true, c.len.ensures)) in
+    told (g.S.Source.left c.args.source.now) (g.S.Source.left c.read_mail.new.source) c.args.self.now c.read_mail.new.self (s.0 ++ t.0) taken.TooLong takes c.in_ok-bytes.ensures.end ans
 
 pub returns-clause-took : goal.returns-clause-took
 returns-clause-took g c =
     let s = c.in_ok-found.ensures.took in
     let t = c.in_ok-bytes.ensures.took in
-    let begun : c.reach.new.self.at_separator ≡ true = sym c.in_ok-found.ensures.found ∙ c.if-not-found.false in
-    let goes = Takes_more (g.S.Source.left c.args.source.now) (g.S.Source.left c.reach.new.source) (g.S.Source.left c.read_mail.new.source) c.args.self.now c.reach.new.self c.read_mail.new.self s.0 t.0 s.1 t.1 in
-    let ans = answers_mail c.args.self.now c.reach.new.self c.read_mail.new.self s.0 t.0 t.2.0 c.in_ok-bytes.bytes begun s.2.0 t.2.2 c.in_ok-bytes.ensures.place t.2.1 (omega (arith, c.if-len-gt-LONGEST.false, c.len.ensures)) in
-    (s.0 ++ t.0, goes, (ans, leaves_more c.args.self.now c.reach.new.self c.read_mail.new.self s.0 t.0 s.2.1 t.2.3))
+    let met : c.reach.new.self.at_separator ≡ true = sym c.in_ok-found.ensures.found ∙ c.if-not-found.false in
+    let takes = Takes_more (g.S.Source.left c.args.source.now) (g.S.Source.left c.reach.new.source) (g.S.Source.left c.read_mail.new.source) c.args.self.now c.reach.new.self c.read_mail.new.self s.0 t.0 s.1 t.1 in
+    let ans = answers_mail c.args.self.now c.reach.new.self c.read_mail.new.self s.0 t.0 t.2.0 c.in_ok-bytes.bytes met s.2.0 t.2.2 c.in_ok-bytes.ensures.place t.2.1 (omega (arith, c.if-len-gt-LONGEST.false, c.len.ensures)) in
+    (s.0 ++ t.0, takes, (ans, leaves_more c.args.self.now c.reach.new.self c.read_mail.new.self s.0 t.0 s.2.1 t.2.3))
 
 pub returns-clause-answer : goal.returns-clause-answer
 returns-clause-answer g c =
     let s = c.in_ok-found.ensures.took in
     let t = c.in_ok-bytes.ensures.took in
-    let begun : c.reach.new.self.at_separator ≡ true = sym c.in_ok-found.ensures.found ∙ c.if-not-found.false in
-    let goes = Takes_more (g.S.Source.left c.args.source.now) (g.S.Source.left c.reach.new.source) (g.S.Source.left c.read_mail.new.source) c.args.self.now c.reach.new.self c.read_mail.new.self s.0 t.0 s.1 t.1 in
-    let ans = answers_mail c.args.self.now c.reach.new.self c.read_mail.new.self s.0 t.0 t.2.0 c.in_ok-bytes.bytes begun s.2.0 t.2.2 c.in_ok-bytes.ensures.place t.2.1 (omega (arith, c.if-len-gt-LONGEST.false, c.len.ensures)) in
-    told (g.S.Source.left c.args.source.now) (g.S.Source.left c.read_mail.new.source) c.args.self.now c.read_mail.new.self (s.0 ++ t.0) (taken.Mail c.in_ok-bytes.bytes) goes c.in_ok-bytes.ensures.end ans
+    let met : c.reach.new.self.at_separator ≡ true = sym c.in_ok-found.ensures.found ∙ c.if-not-found.false in
+    let takes = Takes_more (g.S.Source.left c.args.source.now) (g.S.Source.left c.reach.new.source) (g.S.Source.left c.read_mail.new.source) c.args.self.now c.reach.new.self c.read_mail.new.self s.0 t.0 s.1 t.1 in
+    let ans = answers_mail c.args.self.now c.reach.new.self c.read_mail.new.self s.0 t.0 t.2.0 c.in_ok-bytes.bytes met s.2.0 t.2.2 c.in_ok-bytes.ensures.place t.2.1 (omega (arith, c.if-len-gt-LONGEST.false, c.len.ensures)) in
+    told (g.S.Source.left c.args.source.now) (g.S.Source.left c.read_mail.new.source) c.args.self.now c.read_mail.new.self (s.0 ++ t.0) (taken.Mail c.in_ok-bytes.bytes) takes c.in_ok-bytes.ensures.end ans
 
 pub returns-then-len-gt-LONGEST-clause-stands : goal.returns-then-len-gt-LONGEST-clause-stands
 returns-then-len-gt-LONGEST-clause-stands g c =
     let s = c.in_ok-found.ensures.took in
     let t = c.in_ok-bytes.ensures.took in
-    let goes = Takes_more (g.S.Source.left c.args.source.now) (g.S.Source.left c.reach.new.source) (g.S.Source.left c.read_mail.new.source) c.args.self.now c.reach.new.self c.read_mail.new.self s.0 t.0 s.1 t.1 in
-    stands (g.S.Source.left c.args.source.now) (g.S.Source.left c.read_mail.new.source) c.args.self.now c.read_mail.new.self (s.0 ++ t.0) c.in_ok-found.ensures.before c.in_ok-bytes.ensures.fewer goes
+    let takes = Takes_more (g.S.Source.left c.args.source.now) (g.S.Source.left c.reach.new.source) (g.S.Source.left c.read_mail.new.source) c.args.self.now c.reach.new.self c.read_mail.new.self s.0 t.0 s.1 t.1 in
+    stands (g.S.Source.left c.args.source.now) (g.S.Source.left c.read_mail.new.source) c.args.self.now c.read_mail.new.self (s.0 ++ t.0) c.in_ok-found.ensures.before c.in_ok-bytes.ensures.fewer takes
     (leaves_more c.args.self.now c.reach.new.self c.read_mail.new.self s.0 t.0 s.2.1 t.2.3)
 
 pub returns-clause-stands : goal.returns-clause-stands
 returns-clause-stands g c =
     let s = c.in_ok-found.ensures.took in
     let t = c.in_ok-bytes.ensures.took in
-    let goes = Takes_more (g.S.Source.left c.args.source.now) (g.S.Source.left c.reach.new.source) (g.S.Source.left c.read_mail.new.source) c.args.self.now c.reach.new.self c.read_mail.new.self s.0 t.0 s.1 t.1 in
-    stands (g.S.Source.left c.args.source.now) (g.S.Source.left c.read_mail.new.source) c.args.self.now c.read_mail.new.self (s.0 ++ t.0) c.in_ok-found.ensures.before c.in_ok-bytes.ensures.fewer goes
+    let takes = Takes_more (g.S.Source.left c.args.source.now) (g.S.Source.left c.reach.new.source) (g.S.Source.left c.read_mail.new.source) c.args.self.now c.reach.new.self c.read_mail.new.self s.0 t.0 s.1 t.1 in
+    stands (g.S.Source.left c.args.source.now) (g.S.Source.left c.read_mail.new.source) c.args.self.now c.read_mail.new.self (s.0 ++ t.0) c.in_ok-found.ensures.before c.in_ok-bytes.ensures.fewer takes
     (leaves_more c.args.self.now c.reach.new.self c.read_mail.new.self s.0 t.0 s.2.1 t.2.3)
 
 pub returns-then-not-found-clause-stands : goal.returns-then-not-found-clause-stands
