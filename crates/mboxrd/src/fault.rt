@@ -5,6 +5,8 @@ ghost use Rattle.mboxrd.specs.declared.fault.BoxFault.TheVariants as fault;
 use kit::Memory;
 use outside::Failed;
 
+// Want of memory is free, as of `kit::Memory`: a body that only answers it meets each contract that allows it.
+
 /// Why a call of [`crate::MboxReader`] gave no answer.
 #[derive(Clone, Copy, Debug, PartialEq, Eq)]
 pub enum BoxFault {

@@ -1,13 +1,13 @@
 //! The bytes of a source, piece by piece.
 ghost use Rattle.std.specs.Prelude.{◌≡◌, ◌<◌, ◌≤◌, ◌++◌, ◌-◌, ℕ, List, [], take, drop, length, vec_len, IfOk, IsErrOf, OnErr, MatchResult, true, false};
 ghost use Rattle.std.specs.Io.KnownBytes.{IsAtEnd, Consumes};
-ghost use Rattle.outside.specs.Causes.{Rose};
+ghost use Rattle.outside.specs.Causes.{HasCause, Rose};
 ghost use Rattle.mboxrd.specs.Feeding.{Feeding, Took};
 ghost use Rattle.mboxrd.specs.Passing.{Drops};
 
 use crate::fault::BoxFault;
 use kit::Memory;
-use outside::Source;
+use outside::{Failed, Source};
 use std::alloc::Global;
 use std::marker::Model;
 
@@ -104,6 +104,7 @@ impl Feed {
     }
 
     /// Takes a piece of the source where none is held, and says whether one is held then: none at the end.
+    // To ask twice is to ask once: where a piece is held, none is taken.
     pub fn has_more<S: Source>(&mut self, source: &mut S) -> Result<bool, BoxFault>
         ensures later { S.faults source.old ≤ S.faults source.new }
         ensures read { IsErrOf result BoxFault.Read → Rose (S.faults source.old) (S.faults source.new) }
@@ -156,18 +157,15 @@ impl Feed {
 }
 
 // Takes at most so many bytes to the front, and says how many.
-fn fill<S: Source>(piece: &mut [u8], want: usize, source: &mut S) -> Result<usize, BoxFault>
+fn fill<S: Source>(piece: &mut [u8], want: usize, source: &mut S) -> Result<usize, Failed>
     requires some { 0 < want }
     requires fits { want ≤ length piece.old }
-    ensures later { S.faults source.old ≤ S.faults source.new }
-    ensures read { IsErrOf result BoxFault.Read → Rose (S.faults source.old) (S.faults source.new) }
-    ensures endless { IsErrOf result BoxFault.Endless → ⊥ }
-    ensures memory { IsErrOf result BoxFault.Memory → ⊥ }
+    ensures cause { HasCause (S.faults source.old) (S.faults source.new) result }
     ensures count { IfOk result (λ count. count ≤ want) }
     ensures bytes { MatchResult result
         (λ count. Consumes (S.left source.old) (S.left source.new) (take count piece.new))
         (λ _. Consumes (S.left source.old) (S.left source.new) []) }
     ensures end { IfOk result (λ count. count ≡ 0 → IsAtEnd (S.left source.new)) }
 {
-    Ok(source.take(&mut piece[..want])?)
+    source.take(&mut piece[..want])
 }

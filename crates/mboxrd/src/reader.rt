@@ -1,5 +1,5 @@
 //! The reader of an mbox.
-ghost use Rattle.std.specs.Prelude.{◌≡◌, ◌<◌, ◌≤◌, ◌+◌, ◌++◌, ℕ, List, [], take, drop, length, min, IfOk, OnOk, IsErrOf, MatchResult, true, false};
+ghost use Rattle.std.specs.Prelude.{◌≡◌, ◌<◌, ◌≤◌, ◌+◌, ◌++◌, ℕ, List, [], take, drop, length, min, IfOk, OnOk, OnErr, IsErrOf, MatchResult, true, false};
 ghost use Rattle.std.specs.Io.KnownBytes.{IsAtEnd};
 ghost use Rattle.outside.specs.Causes.{Rose};
 ghost use Rattle.mboxrd.specs.Mails.{mails_from};
@@ -110,6 +110,7 @@ impl MboxReader {
         ensures place { OnOk result (self.new.place ≡ position self.new) }
         ensures first { OnOk result (self.new.at_separator ≡ false) }
         ensures usable { OnOk result (self.new.refused ≡ false) }
+        ensures refused { OnErr result (self.new.refused ≡ true) }
         // What is held, followed by what the source has left, is the file from where the reader stands.
         ensures stands { OnOk result (IfTells (S.left source.old) (S.left source.new) (λ before after.
             (file : List ℕ) → IsAt file before self.old → IsAt file after self.new)) }
@@ -136,6 +137,7 @@ impl MboxReader {
         ensures end { IfOk result (λ found. found ≡ false → IsAtEnd (S.left source.new) × (self.new.held ≡ [])) }
         ensures place { self.new.place ≡ self.old.place }
         ensures usable { OnOk result (self.old.refused ≡ false → self.new.refused ≡ false) }
+        ensures refused { OnErr result (self.new.refused ≡ true) }
     {
         if self.at_separator {
             return Ok(true);
@@ -167,6 +169,7 @@ impl MboxReader {
         ensures end { OnOk result (self.new.at_separator ≡ false → IsAtEnd (S.left source.new) × (self.new.held ≡ [])) }
         ensures place { OnOk result (self.new.place ≡ position self.new) }
         ensures usable { OnOk result (self.new.refused ≡ false) }
+        ensures refused { OnErr result (self.new.refused ≡ true) }
     {
         self.refused = true;
         self.at_separator = false;
@@ -196,6 +199,7 @@ impl MboxReader {
             (λ why. why ≡ BoxFault.Endless → AtMostOne self.old piece)) }
         ensures end { OnOk result (self.new.at_separator ≡ false → IsAtEnd (S.left source.new) × (self.new.held ≡ [])) }
         ensures usable { OnOk result (self.new.refused ≡ false) }
+        ensures refused { OnErr result (self.new.refused ≡ true) }
         // Where the source tells its bytes: the answer is the first mail from where the reader stood, `place` is its end, and the
         // others are those from where it stands then.
         ensures answer { IfOk result (λ answer. IfTells (S.left source.old) (S.left source.new) (λ before after.

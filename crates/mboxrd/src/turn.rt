@@ -11,8 +11,8 @@ use memchr::memchr;
 
 const FROM: [u8; 5] = *b"From ";
 
-/// How many bytes were read, and where the reader stands behind them: nowhere where they ended the
-/// `From ` of a separator.
+/// How many bytes were read, and where the reader stands behind them. There is no such spot where they
+/// ended the `From ` of a separator.
 #[derive(Clone, Copy)]
 pub struct Turn {
     pub read: usize,
@@ -175,7 +175,7 @@ impl Turn {
     }
 }
 
-/// Reads of what is held the next byte, or as much of the line as stays or goes as it is.
+/// Reads the next byte of what is held: in a separator, and in a line that stays as it is, all up to the line's end.
 pub fn read_on(spot: Spot, held: &[u8], mail: &mut Kept) -> Result<Turn, Memory>
     requires spot { IsSpot spot }
     requires some { 0 < length held.now }

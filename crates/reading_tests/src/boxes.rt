@@ -34,7 +34,10 @@ const BOXES: [(&str, &str); 14] = [
     ),
     // A front of `From ` behind an empty line, at the end and before other bytes.
     ("From -\na\n\nFro", "[a\n\nFro|13]end"),
-    ("From -\n\nFrom\n\r\nF\n\nFromage\n", "[\nFrom\n\r\nF\n\nFromage\n|26]end"),
+    (
+        "From -\n\nFrom\n\r\nF\n\nFromage\n",
+        "[\nFrom\n\r\nF\n\nFromage\n|26]end",
+    ),
     ("From -\n\n>>From", "[\n>>From|14]end"),
 ];
 
@@ -45,11 +48,7 @@ fn written(alloc: Global, mail: &[u8], place: u64) -> Result<String, Fail> {
 }
 
 /// An answer, and the place behind it.
-fn answer(
-    alloc: Global,
-    taken: Result<Taken, BoxFault>,
-    place: u64,
-) -> Result<String, Fail> {
+fn answer(alloc: Global, taken: Result<Taken, BoxFault>, place: u64) -> Result<String, Fail> {
     match taken {
         Ok(Taken::Mail(mail)) => written(alloc, &mail, place),
         Ok(Taken::TooLong) => Ok(format!(in alloc; "long|{place} ")?),

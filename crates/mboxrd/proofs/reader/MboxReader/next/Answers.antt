@@ -20,53 +20,49 @@ pub returns-then-len-gt-LONGEST-clause-took : goal.returns-then-len-gt-LONGEST-c
 returns-then-len-gt-LONGEST-clause-took g c =
     let s = c.in_ok-found.ensures.took in
     let t = c.in_ok-bytes.ensures.took in
-    let met : c.reach.new.self.at_separator ≡ true = sym c.in_ok-found.ensures.found ∙ c.if-not-found.false in
-    let takes = Takes_more (g.S.Source.left c.args.source.now) (g.S.Source.left c.reach.new.source) (g.S.Source.left c.read_mail.new.source) c.args.self.now c.reach.new.self c.read_mail.new.self s.0 t.0 s.1 t.1 in
-    let ans = answers_long c.args.self.now c.reach.new.self c.read_mail.new.self s.0 t.0 t.2.0 c.in_ok-bytes.bytes.items met s.2.0 t.2.2 c.in_ok-bytes.ensures.place t.2.1 (omega (arith, c.if-len-gt-LONGEST.true, c.len.ensures)) in
-    (s.0 ++ t.0, takes, (ans, leaves_more c.args.self.now c.reach.new.self c.read_mail.new.self s.0 t.0 s.2.1 t.2.3))
+    let met : c.reach.new.self.at_separator ≡ true = sym c.in_ok-found.ensures.found ∙ c.if-not-found.false in (
+      s.0 ++ t.0,
+      Takes_more _ _ _ c.args.self.now c.reach.new.self c.read_mail.new.self s.0 t.0 s.1 t.1,
+      (
+        answers_long c.args.self.now c.reach.new.self c.read_mail.new.self s.0 t.0 t.2.0 c.in_ok-bytes.bytes.items met s.2.0 t.2.2 c.in_ok-bytes.ensures.place t.2.1
+            (omega (arith, c.if-len-gt-LONGEST.true, c.len.ensures)),
+        leaves_more c.args.self.now c.reach.new.self c.read_mail.new.self s.0 t.0 s.2.1 t.2.3,
+      ),
+    )
 
 pub returns-then-len-gt-LONGEST-clause-answer : goal.returns-then-len-gt-LONGEST-clause-answer
 returns-then-len-gt-LONGEST-clause-answer g c =
-    let s = c.in_ok-found.ensures.took in
-    let t = c.in_ok-bytes.ensures.took in
-    let met : c.reach.new.self.at_separator ≡ true = sym c.in_ok-found.ensures.found ∙ c.if-not-found.false in
-    let takes = Takes_more (g.S.Source.left c.args.source.now) (g.S.Source.left c.reach.new.source) (g.S.Source.left c.read_mail.new.source) c.args.self.now c.reach.new.self c.read_mail.new.self s.0 t.0 s.1 t.1 in
-    let ans = answers_long c.args.self.now c.reach.new.self c.read_mail.new.self s.0 t.0 t.2.0 c.in_ok-bytes.bytes.items met s.2.0 t.2.2 c.in_ok-bytes.ensures.place t.2.1 (omega (arith, c.if-len-gt-LONGEST.true, c.len.ensures)) in
-    told (g.S.Source.left c.args.source.now) (g.S.Source.left c.read_mail.new.source) c.args.self.now c.read_mail.new.self (s.0 ++ t.0) taken.TooLong takes c.in_ok-bytes.ensures.end ans
+    let w = returns-then-len-gt-LONGEST-clause-took g c in
+    told (g.S.Source.left c.args.source.now) (g.S.Source.left c.read_mail.new.source) c.args.self.now c.read_mail.new.self w.0 taken.TooLong w.1 c.in_ok-bytes.ensures.end w.2.0
+
+pub returns-then-len-gt-LONGEST-clause-stands : goal.returns-then-len-gt-LONGEST-clause-stands
+returns-then-len-gt-LONGEST-clause-stands g c =
+    let w = returns-then-len-gt-LONGEST-clause-took g c in
+    stands (g.S.Source.left c.args.source.now) (g.S.Source.left c.read_mail.new.source) c.args.self.now c.read_mail.new.self w.0 c.in_ok-found.ensures.before c.in_ok-bytes.ensures.fewer w.1 w.2.1
 
 pub returns-clause-took : goal.returns-clause-took
 returns-clause-took g c =
     let s = c.in_ok-found.ensures.took in
     let t = c.in_ok-bytes.ensures.took in
-    let met : c.reach.new.self.at_separator ≡ true = sym c.in_ok-found.ensures.found ∙ c.if-not-found.false in
-    let takes = Takes_more (g.S.Source.left c.args.source.now) (g.S.Source.left c.reach.new.source) (g.S.Source.left c.read_mail.new.source) c.args.self.now c.reach.new.self c.read_mail.new.self s.0 t.0 s.1 t.1 in
-    let ans = answers_mail c.args.self.now c.reach.new.self c.read_mail.new.self s.0 t.0 t.2.0 c.in_ok-bytes.bytes met s.2.0 t.2.2 c.in_ok-bytes.ensures.place t.2.1 (omega (arith, c.if-len-gt-LONGEST.false, c.len.ensures)) in
-    (s.0 ++ t.0, takes, (ans, leaves_more c.args.self.now c.reach.new.self c.read_mail.new.self s.0 t.0 s.2.1 t.2.3))
+    let met : c.reach.new.self.at_separator ≡ true = sym c.in_ok-found.ensures.found ∙ c.if-not-found.false in (
+      s.0 ++ t.0,
+      Takes_more _ _ _ c.args.self.now c.reach.new.self c.read_mail.new.self s.0 t.0 s.1 t.1,
+      (
+        answers_mail c.args.self.now c.reach.new.self c.read_mail.new.self s.0 t.0 t.2.0 c.in_ok-bytes.bytes met s.2.0 t.2.2 c.in_ok-bytes.ensures.place t.2.1
+            (omega (arith, c.if-len-gt-LONGEST.false, c.len.ensures)),
+        leaves_more c.args.self.now c.reach.new.self c.read_mail.new.self s.0 t.0 s.2.1 t.2.3,
+      ),
+    )
 
 pub returns-clause-answer : goal.returns-clause-answer
 returns-clause-answer g c =
-    let s = c.in_ok-found.ensures.took in
-    let t = c.in_ok-bytes.ensures.took in
-    let met : c.reach.new.self.at_separator ≡ true = sym c.in_ok-found.ensures.found ∙ c.if-not-found.false in
-    let takes = Takes_more (g.S.Source.left c.args.source.now) (g.S.Source.left c.reach.new.source) (g.S.Source.left c.read_mail.new.source) c.args.self.now c.reach.new.self c.read_mail.new.self s.0 t.0 s.1 t.1 in
-    let ans = answers_mail c.args.self.now c.reach.new.self c.read_mail.new.self s.0 t.0 t.2.0 c.in_ok-bytes.bytes met s.2.0 t.2.2 c.in_ok-bytes.ensures.place t.2.1 (omega (arith, c.if-len-gt-LONGEST.false, c.len.ensures)) in
-    told (g.S.Source.left c.args.source.now) (g.S.Source.left c.read_mail.new.source) c.args.self.now c.read_mail.new.self (s.0 ++ t.0) (taken.Mail c.in_ok-bytes.bytes) takes c.in_ok-bytes.ensures.end ans
-
-pub returns-then-len-gt-LONGEST-clause-stands : goal.returns-then-len-gt-LONGEST-clause-stands
-returns-then-len-gt-LONGEST-clause-stands g c =
-    let s = c.in_ok-found.ensures.took in
-    let t = c.in_ok-bytes.ensures.took in
-    let takes = Takes_more (g.S.Source.left c.args.source.now) (g.S.Source.left c.reach.new.source) (g.S.Source.left c.read_mail.new.source) c.args.self.now c.reach.new.self c.read_mail.new.self s.0 t.0 s.1 t.1 in
-    stands (g.S.Source.left c.args.source.now) (g.S.Source.left c.read_mail.new.source) c.args.self.now c.read_mail.new.self (s.0 ++ t.0) c.in_ok-found.ensures.before c.in_ok-bytes.ensures.fewer takes
-    (leaves_more c.args.self.now c.reach.new.self c.read_mail.new.self s.0 t.0 s.2.1 t.2.3)
+    let w = returns-clause-took g c in
+    told (g.S.Source.left c.args.source.now) (g.S.Source.left c.read_mail.new.source) c.args.self.now c.read_mail.new.self w.0 (taken.Mail c.in_ok-bytes.bytes) w.1 c.in_ok-bytes.ensures.end w.2.0
 
 pub returns-clause-stands : goal.returns-clause-stands
 returns-clause-stands g c =
-    let s = c.in_ok-found.ensures.took in
-    let t = c.in_ok-bytes.ensures.took in
-    let takes = Takes_more (g.S.Source.left c.args.source.now) (g.S.Source.left c.reach.new.source) (g.S.Source.left c.read_mail.new.source) c.args.self.now c.reach.new.self c.read_mail.new.self s.0 t.0 s.1 t.1 in
-    stands (g.S.Source.left c.args.source.now) (g.S.Source.left c.read_mail.new.source) c.args.self.now c.read_mail.new.self (s.0 ++ t.0) c.in_ok-found.ensures.before c.in_ok-bytes.ensures.fewer takes
-    (leaves_more c.args.self.now c.reach.new.self c.read_mail.new.self s.0 t.0 s.2.1 t.2.3)
+    let w = returns-clause-took g c in
+    stands (g.S.Source.left c.args.source.now) (g.S.Source.left c.read_mail.new.source) c.args.self.now c.read_mail.new.self w.0 c.in_ok-found.ensures.before c.in_ok-bytes.ensures.fewer w.1 w.2.1
 
 pub returns-then-not-found-clause-stands : goal.returns-then-not-found-clause-stands
 returns-then-not-found-clause-stands g c =
