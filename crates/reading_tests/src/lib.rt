@@ -1,8 +1,10 @@
-//! Tests of the readers of a mail. It has no code of its own.
+//! Tests of the readers of a mail and of an mbox. It has no code of its own.
 #![tactic(auto)]
 
 #[cfg(test)]
 mod addresses;
+#[cfg(test)]
+mod boxes;
 #[cfg(test)]
 mod dates;
 #[cfg(test)]

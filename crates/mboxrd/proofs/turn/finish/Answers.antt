@@ -1,0 +1,40 @@
+use Rattle.std.proofs.Common.{[], ◌∷◌, ◌++◌, take}
+use Rattle.mboxrd.specs.Halves.{from_text}
+use Rattle.mboxrd.specs.Coming.{closing_bytes}
+use Rattle.mboxrd.proofs.Fronts.{Keeps_more, Keeps_none, Keeps_as}
+use Rattle.mboxrd.proofs.Turning.{from_end, quote_end, separator_end, start_end, inside_end, cr_end}
+use Rattle.mboxrd.proofs.turn.finish.Goals as goal
+
+pub returns-in-Separator : goal.returns-in-Separator
+returns-in-Separator c = ([], Keeps_none c.args.mail.now, rw c.in-Separator.is separator_end)
+
+pub returns-in-Start : goal.returns-in-Start
+returns-in-Start c = ([], Keeps_none c.args.mail.now, rw c.in-Start.is (start_end c.in-Start.field-0))
+
+pub returns-in-Inside : goal.returns-in-Inside
+returns-in-Inside c = ([], Keeps_none c.args.mail.now, rw c.in-Inside.is inside_end)
+
+pub returns-in_ok-keep-in-From-2 : goal.returns-in_ok-keep-in-From-2
+returns-in_ok-keep-in-From-2 c =
+    let fine = rw c.in-From.is at c.requires in
+    let closing = c.in-From.closing in
+    let k = c.in-From.k in (
+      closing_bytes closing ++ take k from_text,
+      Keeps_more c.args.mail.now c.keep.new.self c.keep-in-From.new.self (closing_bytes closing) (take k from_text)
+          (Keeps_as c.args.mail.now c.keep.new.self c.closing_bytes.result.now (closing_bytes closing) c.closing_bytes.ensures c.in_ok-keep-in-From.ensures)
+          c.in_ok-keep-in-From-2.ensures,
+      rw c.in-From.is (from_end closing k fine.0 fine.1),
+    )
+
+pub returns-in_ok-keep-in-Quote-2 : goal.returns-in_ok-keep-in-Quote-2
+returns-in_ok-keep-in-Quote-2 c =
+    let fine = rw c.in-Quote.is at c.requires in
+    let k = c.in-Quote.k in (
+      62 ∷ take k from_text,
+      Keeps_more c.args.mail.now c.keep-in-Quote.new.self c.keep-in-Quote-2.new.self (62 ∷ []) (take k from_text)
+          c.in_ok-keep-in-Quote.ensures c.in_ok-keep-in-Quote-2.ensures,
+      rw c.in-Quote.is (quote_end k fine),
+    )
+
+pub returns-in_ok-keep-in-Cr : goal.returns-in_ok-keep-in-Cr
+returns-in_ok-keep-in-Cr c = (13 ∷ [], c.in_ok-keep-in-Cr.ensures, rw c.in-Cr.is cr_end)
