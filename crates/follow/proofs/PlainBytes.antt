@@ -3,8 +3,6 @@ use Rattle.std.proofs.Common.{◌≡◌, ℕ, ◌<◌, Bool, true, ◌&&◌, ◌
 use Rattle.std.proofs.lemmas.Bool.{and_parts, cases_Bool}
 use Rattle.std.proofs.lemmas.Bool.Decides.{nat_tests}
 use Rattle.std.proofs.lemmas.List.Sums.{AllPass-from_list_all, list_all-from_AllPass}
-use Rattle.std.proofs.lemmas.Str.{IsUtf8-from_ascii}
-use Rattle.std.proofs.lemmas.Str.Ascii.{IsAscii-from_all}
 use Rattle.std.specs.Char.{to_ascii_lowercase, is_ascii_alphanumeric}
 use Rattle.std.specs.List.{list_all, slice_split, onto_first}
 use Rattle.std.specs.Cmp.Derive.{both_true}
@@ -14,6 +12,7 @@ use Rattle.kit.specs.Ids.{is_id, is_id_byte}
 use Rattle.kit.specs.Letters.{lowered}
 use Rattle.kit.specs.Printing.{is_printing_byte}
 use Rattle.kit.specs.Reading.{read_as}
+use Rattle.kit.proofs.Utf8Lemmas.{addr_bytes, utf8_from_all}
 use Rattle.follow.specs.Plain.{is_plain_byte, is_plain_text, plain_address, is_plain_word, is_plain_name}
 
 plain_lowercase : (b : ℕ) → is_plain_byte b ≡ true → to_ascii_lowercase b ≡ b
@@ -31,19 +30,11 @@ lowered-plain (b ∷ bs) h =
 addr_byte_id : (b : ℕ) → is_addr_byte b ≡ true → is_id_byte b ≡ true
 addr_byte_id b h = grind (arith, nat_tests)
 
-addr_byte_ascii : (b : ℕ) → is_addr_byte b ≡ true → b < 128
-addr_byte_ascii b h = grind (arith, nat_tests)
-
 text_byte_ascii : (b : ℕ) → is_printing_byte b ≡ true → b < 128
 text_byte_ascii b h = grind (arith, nat_tests)
 
-all_ascii : (test : ℕ → Bool) → ((b : ℕ) → test b ≡ true → b < 128) → (bs : List ℕ) → list_all test bs ≡ true → IsUtf8 bs
-all_ascii test small bs h =
-    let each = AllPass-from_list_all test bs h in
-    IsUtf8-from_ascii bs (IsAscii-from_all bs (λ k d lt. small _ (each k d lt)))
-
 pub text_utf8 : (bs : List ℕ) → list_all is_printing_byte bs ≡ true → IsUtf8 bs
-text_utf8 = all_ascii is_printing_byte text_byte_ascii
+text_utf8 = utf8_from_all is_printing_byte text_byte_ascii
 
 -- of plain bytes the address is these bytes
 pub plain_address-read : (bs : List ℕ) → list_all is_plain_byte bs ≡ true → read_as is_addr (lowered bs) ≡ plain_address bs
@@ -59,17 +50,10 @@ is_id-from_addr bs h =
     let inner = and_parts _ _ colons.0 in
     let bytes = and_parts _ _ inner.0 in
     let lengths = and_parts _ _ bytes.0 in
-    let each : list_all is_id_byte bs ≡ true = list_all_weaker is_addr_byte is_id_byte addr_byte_id bs bytes.1 in
+    let each : list_all is_id_byte bs ≡ true = list_all_weaker is_addr_byte is_id_byte addr_byte_id bs (addr_bytes bs h) in
     let low : nat_le 3 (length bs) ≡ true = lengths.0 in
     let high : nat_le (length bs) 254 ≡ true = lengths.1 in
     rw each (grind (arith, nat_tests))
-
-pub addr_utf8 : (bs : List ℕ) → is_addr bs ≡ true → IsUtf8 bs
-addr_utf8 bs h =
-    let colons = and_parts _ _ h in
-    let inner = and_parts _ _ colons.0 in
-    let bytes = and_parts _ _ inner.0 in
-    all_ascii is_addr_byte addr_byte_ascii bs bytes.1
 
 pub plain_text_utf8 : (bs : List ℕ) → is_plain_text bs ≡ true → IsUtf8 bs
 plain_text_utf8 bs h =
@@ -119,7 +103,7 @@ unfolding is_name_byte
 name_byte_ascii b h = grind (arith, nat_tests)
 
 pub plain_name_utf8 : (bs : List ℕ) → is_plain_name bs ≡ true → IsUtf8 bs
-plain_name_utf8 bs h = all_ascii is_name_byte name_byte_ascii bs (of_letters bs (words_letters _ h))
+plain_name_utf8 bs h = utf8_from_all is_name_byte name_byte_ascii bs (of_letters bs (words_letters _ h))
 
 -- an address that was read reads as an id
 pub id_of_address : (body address bytes : List ℕ) → plain_address body ≡ Some address → bytes ≡ address → is_addr address ≡ true → read_as is_id bytes ≡ plain_address body

@@ -1,3 +1,4 @@
 pub mod LineLemmas
 pub mod RawLines
 mod Rows
+pub mod Utf8Lemmas

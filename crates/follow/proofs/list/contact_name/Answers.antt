@@ -1,4 +1,4 @@
-use Rattle.follow.proofs.PlainBytes.{addr_utf8}
+use Rattle.kit.proofs.Utf8Lemmas.{addr_utf8}
 use Rattle.follow.proofs.list.contact_name.Goals as goal
 
 pub text_of-requires : goal.text_of-requires

@@ -1,4 +1,4 @@
-use Rattle.follow.proofs.PlainBytes.{addr_utf8}
+use Rattle.kit.proofs.Utf8Lemmas.{addr_utf8}
 use Rattle.follow.proofs.printed.push_line.Goals as goal
 
 pub str_of-requires : goal.str_of-requires

@@ -1,4 +1,5 @@
-use Rattle.card_type.proofs.KeyBytes.{addr_utf8, group_utf8, id_utf8}
+use Rattle.kit.proofs.Utf8Lemmas.{addr_utf8, id_utf8}
+use Rattle.card_type.proofs.KeyBytes.{group_utf8}
 use Rattle.card_type.proofs.key.ChatKey.bytes.Goals as goal
 
 pub returns-in-Single-clause-utf8 : goal.returns-in-Single-clause-utf8
