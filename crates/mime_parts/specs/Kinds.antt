@@ -1,5 +1,5 @@
 -- Content types (RFC 2045, section 5) and dispositions (RFC 2183).
-use Rattle.std.specs.Prelude.{ℕ, not, ◌&&◌, ◌==◌, if◌then◌else◌, List, [], codes, find, Option, Some, None, option_map, unwrap_or}
+use Rattle.std.specs.Prelude.{ℕ, Bool, false, not, ◌&&◌, ◌==◌, if◌then◌else◌, List, [], codes, find, Option, Some, None, option_map, unwrap_or}
 use Rattle.std.specs.List.{list_any}
 use Rattle.kit.specs.Cuts.{split_once}
 use Rattle.kit.specs.Letters.{lowered, same_name}
@@ -23,15 +23,22 @@ type_of word =
     split_once word 47 >>= λ sides.
     if is_visible sides.0 && is_visible sides.1 && not (list_any (λ b. b == 47) sides.1) then Some sides else None
 
--- the type that a body names; what names none is text/plain (RFC 2045, section 5.2)
-abbrev pub type_in : List ℕ → List ℕ × List ℕ
-type_in body = unwrap_or (type_of (main_word body)) (codes "text", codes "plain")
+-- what a part is that names no type (RFC 2045, section 5.2), in a digest (RFC 2046, section 5.1.5) or elsewhere
+abbrev pub default_type : Bool → List ℕ × List ℕ
+default_type digest = if digest then (codes "message", codes "rfc822") else (codes "text", codes "plain")
 
--- the content type in a body
-abbrev pub content_type : List ℕ → Kind
-content_type body =
-    let sides = type_in body in
+-- the type that a body names
+abbrev pub type_in : Bool → List ℕ → List ℕ × List ℕ
+type_in digest body = unwrap_or (type_of (main_word body)) (default_type digest)
+
+-- the content type in the body of a field, in a part of a digest or elsewhere
+abbrev pub content_type_in : Bool → List ℕ → Kind
+content_type_in digest body =
+    let sides = type_in digest body in
     record { top = lowered sides.0; sub = lowered sides.1; params = params (pairs body) }
+
+abbrev pub content_type : List ℕ → Kind
+content_type body = content_type_in false body
 
 -- the value of the parameter of a name, whose case does not count
 abbrev pub param_of : Kind → List ℕ → Option (List ℕ)

@@ -4,3 +4,6 @@ pub mod Sections
 pub mod Params
 pub mod Views
 pub mod Kinds
+pub mod Multiparts
+pub mod Trees
+pub mod Walks

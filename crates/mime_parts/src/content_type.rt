@@ -3,7 +3,7 @@ ghost use Rattle.std.specs.Prelude.{◌≡◌, IfOk, IfSome, IsTrue, option_map}
 ghost use Rattle.std.specs.Option.{option_copied};
 ghost use Rattle.kit.specs.Letters.{lowered};
 ghost use Rattle.kit.specs.Printing.{is_visible};
-ghost use Rattle.mime_parts.specs.Kinds.{content_type, type_in, type_of};
+ghost use Rattle.mime_parts.specs.Kinds.{content_type, content_type_in, default_type, type_in, type_of};
 
 use crate::pair::{lowered, pairs};
 use crate::param::{Param, params};
@@ -60,15 +60,28 @@ fn type_of(word: &[u8]) -> Option<(&[u8], &[u8])>
     Some((top, sub))
 }
 
-/// The type that a body names, or text/plain.
-fn type_in(body: &[u8]) -> (&[u8], &[u8])
-    ensures value { (result.0.now, result.1.now) ≡ type_in body.now }
+/// What a part is that names no type.
+fn default_type(digest: bool) -> (&'static [u8], &'static [u8])
+    ensures value { (result.0.now, result.1.now) ≡ default_type digest }
+    ensures top { IsTrue (is_visible result.0.now) }
+    ensures sub { IsTrue (is_visible result.1.now) }
+{
+    if digest {
+        (b"message", b"rfc822")
+    } else {
+        (b"text", b"plain")
+    }
+}
+
+/// The type that a body names.
+fn type_in(digest: bool, body: &[u8]) -> (&[u8], &[u8])
+    ensures value { (result.0.now, result.1.now) ≡ type_in digest body.now }
     ensures top { IsTrue (is_visible result.0.now) }
     ensures sub { IsTrue (is_visible result.1.now) }
 {
     match type_of(main_word(body)) {
         Some(sides) => sides,
-        None => (b"text", b"plain"),
+        None => default_type(digest),
     }
 }
 
@@ -78,6 +91,18 @@ fn lowered_text(alloc: Global, word: &[u8]) -> Result<Text, Memory>
     ensures { IfOk result (λ text. text ≡ lowered word.now) }
 {
     to_text(alloc, Charset::Ascii, &lowered(alloc, word)?)
+}
+
+/// What the body of a Content-Type field says in a part of a digest (RFC 2046, section 5.1.5) or elsewhere.
+pub fn content_type_in(alloc: Global, digest: bool, body: &[u8]) -> Result<ContentType, Memory>
+    ensures { IfOk result (λ kind. kind ≡ content_type_in digest body.now) }
+{
+    let (top, sub) = type_in(digest, body);
+    Ok(ContentType {
+        top: lowered_text(alloc, top)?,
+        sub: lowered_text(alloc, sub)?,
+        params: params(alloc, &pairs(alloc, body)?)?,
+    })
 }
 
 /// What the body of a Content-Type field says, of any bytes and any length (RFC 2045, section 5). Takes memory, and is `Err`
@@ -91,10 +116,5 @@ fn lowered_text(alloc: Global, word: &[u8]) -> Result<Text, Memory>
 pub fn read_content_type(alloc: Global, body: &[u8]) -> Result<ContentType, Memory>
     ensures { IfOk result (λ kind. kind ≡ content_type body.now) }
 {
-    let (top, sub) = type_in(body);
-    Ok(ContentType {
-        top: lowered_text(alloc, top)?,
-        sub: lowered_text(alloc, sub)?,
-        params: params(alloc, &pairs(alloc, body)?)?,
-    })
+    content_type_in(alloc, false, body)
 }

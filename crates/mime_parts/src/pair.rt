@@ -37,7 +37,8 @@ fn inside(alloc: Global, bytes: &[u8]) -> Result<Bytes, Memory>
     Ok(Bytes::from(value))
 }
 
-fn is_blank(bytes: &[u8]) -> bool
+/// Whether bytes are all white space, or none.
+pub fn is_blank(bytes: &[u8]) -> bool
     ensures { result ≡ list_all is_white bytes.now }
 {
     bytes.iter().all(|b| is_white(*b))

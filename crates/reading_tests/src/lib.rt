@@ -14,6 +14,8 @@ mod headers;
 #[cfg(test)]
 mod parameters;
 #[cfg(test)]
+mod parts;
+#[cfg(test)]
 mod transfer;
 #[cfg(test)]
 mod values;

@@ -1,0 +1,117 @@
+//! The parts of a mail.
+ghost use Rattle.std.specs.Prelude.{◌≡◌, Bool, IfOk};
+ghost use Rattle.std.specs.Option.{option_copied};
+ghost use Rattle.mime_parts.specs.Trees.{boundary_of, field, file_name, is_digest, is_kind, kind_of, node_of, part};
+
+use crate::content_type::{ContentType, content_type_in};
+use crate::disposition::read_disposition;
+use crate::multipart::Span;
+use kit::{Memory, Text};
+use mail_headers::Header;
+use std::alloc::Global;
+use transfer_code::{Encoding, encoding_of};
+
+/// A part below this many others is not opened.
+pub const DEEPEST: u32 = 16;
+
+/// A part of a mail (RFC 2045, section 2.4).
+#[derive(Debug, Drop)]
+pub struct PartNode {
+    /// How many multiparts it stands in: 0 to 16, and 0 is the mail itself.
+    pub depth: u32,
+    /// Its content type: where none was read it is text/plain, and message/rfc822 in a digest.
+    pub kind: ContentType,
+    /// How its content is encoded (RFC 2045, section 6).
+    pub encoding: Encoding,
+    /// Whether its disposition says that it is an attachment (RFC 2183, section 2.2).
+    pub attach: bool,
+    /// The file name that its disposition tells, or else its type; empty where none is told.
+    pub name: Text,
+    /// Where its content begins, behind its own header, as an offset in the body of the mail.
+    pub start: usize,
+    /// The offset behind its content, no less than `start` and no more than the body has bytes.
+    pub end: usize,
+    /// Whether no parts of it are in the tree: it is no multipart, or one that was not opened.
+    pub leaf: bool,
+}
+
+/// The body of the first field of a name, or an empty one.
+fn field<'a>(header: &'a Header, name: &[u8]) -> &'a [u8]
+    ensures { result.now ≡ field header.now name.now }
+{
+    header.first(name).unwrap_or(b"")
+}
+
+/// The content type that a header tells, in a digest or elsewhere.
+pub fn kind_of(alloc: Global, digest: bool, header: &Header) -> Result<ContentType, Memory>
+    ensures { IfOk result (λ kind. kind ≡ kind_of digest header.now) }
+{
+    content_type_in(alloc, digest, field(header, b"Content-Type"))
+}
+
+fn is_kind(top: &[u8], sub: &[u8], kind: &ContentType) -> bool
+    ensures { result ≡ is_kind top.now sub.now kind.now }
+{
+    kind.top.bytes() == top && kind.sub.bytes() == sub
+}
+
+/// Whether the parts of a multipart are mails where they name no type (RFC 2046, section 5.1.5).
+pub fn is_digest(kind: &ContentType) -> bool
+    ensures { result ≡ is_digest kind.now }
+{
+    is_kind(b"multipart", b"digest", kind)
+}
+
+/// The boundary at which a part of a type is cut (RFC 2046, section 5.1.1), if it is to be opened: that of a multipart, unless
+/// it is encrypted (RFC 1847, section 2.2).
+pub fn boundary_of(kind: &ContentType) -> Option<&[u8]>
+    ensures { option_copied result ≡ boundary_of kind.now }
+{
+    if kind.top.bytes() != b"multipart".as_slice() || kind.sub.bytes() == b"encrypted".as_slice() {
+        return None;
+    }
+    let boundary = kind.param(b"boundary")?.bytes();
+    if boundary.is_empty() {
+        return None;
+    }
+    Some(boundary)
+}
+
+/// The file name, of that which a disposition tells.
+fn file_name(alloc: Global, told: Text, kind: &ContentType) -> Result<Text, Memory>
+    ensures { IfOk result (λ name. name ≡ file_name told kind.now) }
+{
+    if !told.bytes().is_empty() {
+        return Ok(told);
+    }
+    match kind.param(b"name") {
+        Some(name) => name.copy(),
+        None => Ok(Text::from(String::new(alloc))),
+    }
+}
+
+/// The node of a part of this header and type, whose content stands at a place.
+pub fn node_of(
+    alloc: Global,
+    header: &Header,
+    kind: ContentType,
+    levels: u32,
+    content: Span,
+    leaf: bool,
+) -> Result<PartNode, Memory>
+    ensures { (digest : Bool) → kind ≡ kind_of digest header.now
+        → IfOk result (λ node. node ≡ node_of levels digest (part header.now content) leaf) }
+{
+    let told = read_disposition(alloc, field(header, b"Content-Disposition"))?;
+    let name = file_name(alloc, told.name, &kind)?;
+    Ok(PartNode {
+        depth: DEEPEST.saturating_sub(levels),
+        kind,
+        encoding: encoding_of(field(header, b"Content-Transfer-Encoding")),
+        attach: told.attach,
+        name,
+        start: content.start,
+        end: content.end,
+        leaf,
+    })
+}
