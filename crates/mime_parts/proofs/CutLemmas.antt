@@ -8,7 +8,7 @@ use Rattle.std.proofs.lemmas.List.Elements.{All-cons, All-head, All-nil, All-tai
 use Rattle.kit.specs.Lines.{ending_len, raw_lines}
 use Rattle.kit.proofs.LineLemmas.{concat-raw_lines}
 use Rattle.mime_parts.specs.declared.multipart.Span.{Span}
-use Rattle.mime_parts.specs.Multiparts.{Section, cut, is_any, is_closing, is_delimiter, Entry, IsCutAt, entry_bytes, joined, line_end, placed, section_bytes, span_at, spans, spans_at, text_of}
+use Rattle.mime_parts.specs.Multiparts.{Entry, IsCutAt, IsCutInto, IsPlain, IsSection, Section, cut, entry_bytes, is_any, is_closing, is_delimiter, joined, line_end, placed, section_bytes, section_lines, span_at, spans, spans_at, text_of}
 use Rattle.mime_parts.specs.Walks.{IsWithin}
 
 pub concat-cut : (boundary : List ℕ) (ls : List (List ℕ))
@@ -140,3 +140,30 @@ spans-cut boundary start bytes =
       delimiters = entries-delimiters boundary closed c.sections (cut-delimiters boundary (raw_lines bytes));
       endings = entries-endings closed c.sections;
     }
+
+-- ---- the lines of a multipart, by their grammar
+
+cut-into-step : (boundary l : List ℕ) (ls : List (List ℕ)) → IsCutInto boundary ls (cut boundary ls) → IsCutInto boundary (l ∷ ls) (cut boundary (l ∷ ls))
+cut-into-step boundary l ls so_far =
+    let more = cut boundary ls in
+    elim (cases_Bool (is_closing boundary l)) [
+      | inl closes ↦ rw closes (record { whole = refl; preamble = All-nil (IsPlain boundary); sections = All-nil (IsSection boundary); epilogue = closes })
+      | inr goes ↦ elim (cases_Bool (is_delimiter boundary l)) [
+        | inl begins ↦ rw (goes, begins) (record {
+          whole = ap (λ (ms : List (List ℕ)). l ∷ ms) (append_assoc more.preamble (flat_map section_lines more.sections) more.epilogue ∙ so_far.whole);
+          preamble = All-nil (IsPlain boundary);
+          sections = All-cons (IsSection boundary) (record { delimiter = l; lines = more.preamble }) more.sections (begins, so_far.preamble) so_far.sections;
+          epilogue = so_far.epilogue;
+        })
+        | inr stays ↦ rw (goes, stays) (record {
+          whole = ap (λ (ms : List (List ℕ)). l ∷ ms) so_far.whole;
+          preamble = All-cons (IsPlain boundary) l more.preamble (goes, stays) so_far.preamble;
+          sections = so_far.sections;
+          epilogue = so_far.epilogue;
+        })
+      ]
+    ]
+
+pub cut-into : (boundary : List ℕ) (ls : List (List ℕ)) → IsCutInto boundary ls (cut boundary ls)
+cut-into boundary [] = record { whole = refl; preamble = All-nil (IsPlain boundary); sections = All-nil (IsSection boundary); epilogue = tt }
+cut-into boundary (l ∷ ls) = cut-into-step boundary l ls (cut-into boundary ls)

@@ -84,6 +84,30 @@ spans boundary start bytes =
 abbrev pub reaching : Option Span → ℕ → Option Span
 reaching part end = option_map (λ span. record { start = span.start; end = end }) part
 
+-- ---- the lines of a multipart, by their grammar
+
+-- neither a delimiter line nor a closing one
+abbrev pub IsPlain : List ℕ → List ℕ → Type 0
+IsPlain boundary raw = (is_closing boundary raw ≡ false) × (is_delimiter boundary raw ≡ false)
+
+abbrev pub IsSection : List ℕ → Section → Type 0
+IsSection boundary s = IsTrue (is_delimiter boundary s.delimiter) × All (IsPlain boundary) s.lines
+
+abbrev pub section_lines : Section → List (List ℕ)
+section_lines s = s.delimiter ∷ s.lines
+
+-- nothing, or a closing line and any lines
+abbrev pub IsEpilogue : List ℕ → List (List ℕ) → Type 0
+IsEpilogue boundary [] = Unit {0}
+IsEpilogue boundary (l ∷ ls) = IsTrue (is_closing boundary l)
+
+-- lines are a preamble, sections, and an epilogue
+pub record IsCutInto (boundary : List ℕ) (ls : List (List ℕ)) (c : Cut) : Type 0 where
+  pub whole : c.preamble ++ (flat_map section_lines c.sections ++ c.epilogue) ≡ ls
+  pub preamble : All (IsPlain boundary) c.preamble
+  pub sections : All (IsSection boundary) c.sections
+  pub epilogue : IsEpilogue boundary c.epilogue
+
 -- ---- nothing of a multipart is lost, and nothing is counted twice
 
 -- the bytes that end a raw line: CR LF, LF, or none

@@ -1,6 +1,7 @@
 //! The tree of the parts of a mail.
 ghost use Rattle.std.specs.Prelude.{◌≡◌, ◌≤◌, ◌+◌, ◌++◌, ℕ, List, All, IfOk, OnOk, length, map, reverse, vec_len};
-ghost use Rattle.mime_parts.specs.Multiparts.{IsCutAt, spans};
+ghost use Rattle.kit.specs.Lines.{raw_lines};
+ghost use Rattle.mime_parts.specs.Multiparts.{IsCutAt, IsCutInto, cut, spans};
 ghost use Rattle.mime_parts.specs.Trees.{opened, tree};
 ghost use Rattle.mime_parts.specs.Walks.{IsNodeWithin, IsWithin, work_at};
 
@@ -25,11 +26,11 @@ pub struct PartTree {
 #[derive(Clone, Copy, Debug, PartialEq, Eq)]
 struct Work {
     /// How many levels may lie below it.
-    pub levels: u32,
+    levels: u32,
     /// Whether it stands in a digest.
-    pub digest: bool,
+    digest: bool,
     /// Where its header and its content stand.
-    pub span: Span,
+    span: Span,
 }
 
 /// Where the parts in a part stand, if it is opened: where so many levels may lie below it, and no more than 1,000 nodes are
@@ -184,8 +185,10 @@ pub fn parts(alloc: Global, header: &Header, body: &[u8]) -> Result<PartTree, Me
     ensures few { IfOk result (λ read. (1 ≤ vec_len read.nodes) × (vec_len read.nodes ≤ 1000)) }
     ensures within { IfOk result (λ read. All (IsNodeWithin (length body.now)) read.nodes.items) }
 
-    // Of each multipart nothing is lost, and nothing is counted twice.
-    ensures cut { (boundary : List ℕ) (start : ℕ) (bytes : List ℕ) → IsCutAt boundary start bytes (spans boundary start bytes) }
+    // The lines of each multipart are cut as the grammar of the RFC has them, and of its bytes nothing is lost, and nothing is
+    // counted twice.
+    ensures grammar { (boundary : List ℕ) (bytes : List ℕ) → IsCutInto boundary (raw_lines bytes) (cut boundary (raw_lines bytes)) }
+    ensures whole { (boundary : List ℕ) (start : ℕ) (bytes : List ℕ) → IsCutAt boundary start bytes (spans boundary start bytes) }
 {
     let mut walk = Walk {
         nodes: Vec::new(alloc),

@@ -1,8 +1,9 @@
 use Rattle.std.proofs.Common.{◌≡◌, ◌+◌, length, vec_len, rules, arith}
 use Rattle.std.specs.Prelude.{Some}
 use Rattle.std.proofs.lemmas.List.Elements.{All-pop}
+use Rattle.kit.specs.Lines.{raw_lines}
 use Rattle.mime_parts.specs.Walks.{IsWithin, coming}
-use Rattle.mime_parts.proofs.CutLemmas.{spans-cut}
+use Rattle.mime_parts.proofs.CutLemmas.{cut-into, spans-cut}
 use Rattle.mime_parts.proofs.WalkLemmas.{stack-first, stack-kept}
 use Rattle.mime_parts.proofs.tree.parts.Goals as goal
 
@@ -36,11 +37,20 @@ loop-next-preserved c =
           (vec_len c.loop-next.walk.nodes + vec_len c.pop.new.self + 1) c.in-Some.ensures.items (omega (arith, nodes, work)) read.coming c.loop-next.invariant.coming;
     }
 
-pub returns-in_err-enter-clause-cut : goal.returns-in_err-enter-clause-cut
-returns-in_err-enter-clause-cut c = spans-cut
+pub returns-in_err-enter-clause-whole : goal.returns-in_err-enter-clause-whole
+returns-in_err-enter-clause-whole c = spans-cut
 
-pub returns-in_err-read-clause-cut : goal.returns-in_err-read-clause-cut
-returns-in_err-read-clause-cut c = spans-cut
+pub returns-in_err-read-clause-whole : goal.returns-in_err-read-clause-whole
+returns-in_err-read-clause-whole c = spans-cut
 
-pub returns-clause-cut : goal.returns-clause-cut
-returns-clause-cut c = spans-cut
+pub returns-clause-whole : goal.returns-clause-whole
+returns-clause-whole c = spans-cut
+
+pub returns-in_err-enter-clause-grammar : goal.returns-in_err-enter-clause-grammar
+returns-in_err-enter-clause-grammar c = λ boundary bytes. cut-into boundary (raw_lines bytes)
+
+pub returns-in_err-read-clause-grammar : goal.returns-in_err-read-clause-grammar
+returns-in_err-read-clause-grammar c = λ boundary bytes. cut-into boundary (raw_lines bytes)
+
+pub returns-clause-grammar : goal.returns-clause-grammar
+returns-clause-grammar c = λ boundary bytes. cut-into boundary (raw_lines bytes)
