@@ -28,7 +28,7 @@ use std::sync::ledger::Ledger;
 /// No plain mbox has more bytes.
 const LONGEST: usize = 1_048_576;
 
-/// The printed list of the chats of the mails that arrive at a moment.
+/// The printed list of the chats of the mails that arrive at a moment, in anyone's mailbox.
 fn print_cards(alloc: Global, moment: u64, cards: Vec<Card>) -> Result<String, Memory>
     requires { moment ≤ last_moment }
     ensures { (me : List ℕ) → IfOk result (λ text. string_bytes text ≡ list_text (list (followed me moment cards.items))) }
@@ -152,12 +152,13 @@ fn run_given<M: Source, C: Clock, K: Sink>(
 
 /// Runs the words of a command line over the devices, and puts the answer, or the line that says why there is none.
 ///
-/// The command is `--me ADDR --at N list`: the list of the chats of an mbox that is plain, that is, of at most 1,048,576
-/// bytes and mails of nine stated lines each, all of which arrive at the moment N, in seconds since 1970. `Usage` comes
-/// exactly where the words are no command, and `Unbuilt` where a steps file is given, of which nothing is taken, or
-/// where the mbox is not plain. `Read` and `Write` come only at a fault of the mbox or of the sink in this call, and
-/// `Memory` may come at any point. At most 1,048,577 bytes of the mbox are taken. Neither the shelf nor the clock is
-/// called, and no step is taken.
+/// Of the commands only `list` is answered yet: the list of the chats of an mbox that is plain, that is, of at most 1,048,576
+/// bytes and mails of nine stated lines each, all of which arrive at one moment, in seconds since 1970. That is the moment of
+/// the option `--at`, or the clock's, which is asked once where the words tell none and the mbox is read. `Usage` comes
+/// exactly where the words are written as no request, and `Unbuilt` where the command is another one, where a steps file is
+/// given, of which nothing is taken, or where the mbox is not plain. `Read` and `Write` come only at a fault of the mbox or
+/// of the sink in this call, and `Memory` may come at any point. At most 1,048,577 bytes of the mbox are taken. The shelf is
+/// not called, and no step is taken.
 pub fn run<M: Source, S: Source, H: Shelf, C: Clock, K: Sink, L: Ledger>(
     alloc: Global,
     words: &[Text],

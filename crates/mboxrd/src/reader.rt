@@ -115,6 +115,7 @@ impl MboxReader {
         ensures stands { OnOk result (IfTells (S.left source.old) (S.left source.new) (λ before after.
             (file : List ℕ) → IsAt file before self.old → IsAt file after self.new)) }
     {
+        // It stood at no separator, and stands at none behind the skip.
         self.refused = true;
         let dropped = self.feed.skip(source, count)?;
         self.refused = false;
