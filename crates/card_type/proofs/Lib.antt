@@ -1,7 +1,6 @@
 -- Lemmas of this crate, and rows that compute.
 pub mod KeyBytes
 pub mod Maps
-pub mod OptionCases
 pub mod Orders
 pub mod Weights
 mod Rows

@@ -1,5 +1,5 @@
 //! The texts of keys.
-ghost use Rattle.std.specs.Prelude.{◌≡◌, ◌≢◌, ◌++◌, ℕ, List, Some, IfOk, IfSome, IfNone, IsTrue};
+ghost use Rattle.std.specs.Prelude.{◌≡◌, ◌≢◌, Some, IfOk, IfSome, IfNone, IsTrue};
 ghost use Rattle.std.specs.Char.{is_ascii_uppercase};
 ghost use Rattle.std.specs.List.{list_any};
 ghost use Rattle.kit.specs.Addresses.{is_addr};
@@ -9,17 +9,9 @@ ghost use Rattle.card_type.specs.KeyTexts.{key_front, key_text, is_key};
 
 use crate::group_id::GroupId;
 use crate::key::ChatKey;
-use kit::{Addr, Id, Memory, Text};
+use kit::{Addr, Id, Memory, Text, behind};
 use std::alloc::Global;
 use std::str;
-
-/// What stands behind a front: `None` exactly where the bytes do not begin with it.
-fn behind<'a>(bytes: &'a [u8], front: &[u8]) -> Option<&'a [u8]>
-    ensures some { IfSome result (λ rest. bytes.now ≡ front.now ++ rest.now) }
-    ensures none { IfNone result ((rest : List ℕ) → bytes.now ≢ front.now ++ rest) }
-{
-    bytes.strip_prefix(front)
-}
 
 fn has_capital(bytes: &[u8]) -> bool
     ensures { result ≡ list_any is_ascii_uppercase bytes.now }
@@ -69,13 +61,13 @@ impl ChatKey {
         if bytes == b"self".as_slice() {
             return Ok(Some(ChatKey::SelfChat));
         }
-        if let Some(rest) = behind(bytes, b"single:") {
+        if let Some(rest) = behind(b"single:", bytes) {
             return Ok(read_addr(alloc, rest)?.map(ChatKey::Single));
         }
-        if let Some(rest) = behind(bytes, b"group:") {
+        if let Some(rest) = behind(b"group:", bytes) {
             return Ok(GroupId::read(alloc, rest)?.map(ChatKey::Group));
         }
-        if let Some(rest) = behind(bytes, b"thread:") {
+        if let Some(rest) = behind(b"thread:", bytes) {
             return Ok(Id::read(alloc, rest)?.map(ChatKey::Thread));
         }
         Ok(None)

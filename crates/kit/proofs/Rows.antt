@@ -5,11 +5,14 @@ use Rattle.std.specs.Str.{is_utf8, chars}
 use Rattle.std.specs.Str.Lossy.{utf8_lossy, utf8_valid_len, utf8_error_len}
 use Rattle.kit.specs.declared.charset.Charset.TheVariants.{Utf8, Latin1, Ascii}
 use Rattle.kit.specs.Charsets.{charset_of, to_text}
+use Rattle.kit.specs.Cuts.{behind}
+use Rattle.kit.specs.Distinct.{are_distinct, each_once}
 use Rattle.kit.specs.Letters.{lowered, same_name}
 use Rattle.kit.specs.Reading.{read_as}
 use Rattle.kit.specs.Lines.{raw_lines, content, lines}
 use Rattle.kit.specs.Ids.{is_id}
 use Rattle.kit.specs.Addresses.{is_addr}
+use Rattle.kit.specs.White.{is_blank}
 
 lines_of_four_kinds : lines (codes "a\r\nb\n\nc\r") ≡ record { start = 0; end = 1; next = 3 } ∷ record { start = 3; end = 4; next = 5 }
     ∷ record { start = 5; end = 5; next = 6 } ∷ record { start = 6; end = 8; next = 8 } ∷ []
@@ -26,6 +29,30 @@ lines_of_nothing = refl
 
 content_keeps_one_cr : content (codes "a\r\r\n") ≡ codes "a\r"
 content_keeps_one_cr = refl
+
+behind_front : behind (codes "ab") (codes "abc") ≡ Some (codes "c")
+behind_front = refl
+
+behind_other : behind (codes "ab") (codes "ac") ≡ None
+behind_other = refl
+
+behind_longer : behind (codes "ab") (codes "a") ≡ None
+behind_longer = refl
+
+blank_space_and_tab : is_blank (codes " \t") ≡ true
+blank_space_and_tab = refl
+
+blank_nothing : is_blank [] ≡ true
+blank_nothing = refl
+
+blank_with_lf : is_blank (codes " \n") ≡ false
+blank_with_lf = refl
+
+distinct_not : are_distinct (codes "b" ∷ codes "a" ∷ codes "b" ∷ []) ≡ false
+distinct_not = refl
+
+once_the_first : each_once (codes "b" ∷ codes "a" ∷ codes "b" ∷ codes "c" ∷ []) ≡ codes "b" ∷ codes "a" ∷ codes "c" ∷ []
+once_the_first = refl
 
 id_plain : read_as is_id (codes "a@b") ≡ Some (codes "a@b")
 id_plain = refl

@@ -1,6 +1,7 @@
 //! Cutting bytes in two.
-ghost use Rattle.std.specs.Prelude.{◌≡◌, ◌==◌, ◌<◌, IfSome, length, option_map, position};
-ghost use Rattle.kit.specs.Cuts.{split_once};
+ghost use Rattle.std.specs.Prelude.{◌≡◌, ◌≢◌, ◌++◌, ◌==◌, ◌<◌, ℕ, List, IfNone, IfSome, length, option_map, position};
+ghost use Rattle.std.specs.Option.{option_copied};
+ghost use Rattle.kit.specs.Cuts.{behind, split_once};
 
 fn place_of(bytes: &[u8], wanted: u8) -> Option<usize>
     ensures value { result ≡ position (λ b. b == wanted) bytes.now }
@@ -17,4 +18,13 @@ pub fn split_once(bytes: &[u8], wanted: u8) -> Option<(&[u8], &[u8])>
 {
     let at = place_of(bytes, wanted)?;
     Some((&bytes[..at], &bytes[at + 1..]))
+}
+
+/// What stands behind a front: `None` exactly where the bytes do not begin with it. Takes no memory.
+pub fn behind<'a>(front: &[u8], bytes: &'a [u8]) -> Option<&'a [u8]>
+    ensures value { option_copied result ≡ behind front.now bytes.now }
+    ensures some { IfSome result (λ rest. bytes.now ≡ front.now ++ rest.now) }
+    ensures none { IfNone result ((rest : List ℕ) → bytes.now ≢ front.now ++ rest) }
+{
+    bytes.strip_prefix(front)
 }

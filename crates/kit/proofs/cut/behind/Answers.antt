@@ -1,7 +1,7 @@
 use Rattle.std.proofs.lemmas.Slice.Eq.{strip_prefix_is}
 use Rattle.std.specs.Cmp.{unsigned_Decides}
-use Rattle.card_type.proofs.OptionCases.{some_from_match, none_from_match}
-use Rattle.card_type.proofs.key_text.behind.Goals as goal
+use Rattle.kit.proofs.OptionCases.{some_from_match, none_from_match}
+use Rattle.kit.proofs.cut.behind.Goals as goal
 
 pub returns-clause-some : goal.returns-clause-some
 returns-clause-some c =
