@@ -1,9 +1,8 @@
 -- The words in bytes and the stretches between them, and how they are rewritten to a text (RFC 2047, section 6).
 use Rattle.std.specs.Prelude.{ℕ, zero, suc, ◌-◌, Bool, true, false, ◌&&◌, if◌then◌else◌, List, [], ◌∷◌, ◌++◌, length, Option, Some, None, option_map, unwrap_or}
-use Rattle.std.specs.List.{list_all}
 use Rattle.kit.specs.declared.charset.Charset.TheVariants.{Utf8}
 use Rattle.kit.specs.Charsets.{to_text}
-use Rattle.kit.specs.White.{is_white}
+use Rattle.kit.specs.White.{is_blank}
 use Rattle.encoded_words.specs.Words.{Found, word_at, word_text}
 
 -- a stretch, and the word and the pieces behind it, if there are any
@@ -38,7 +37,7 @@ pieces bytes = pieces_behind 0 bytes
 
 -- white space alone between two words is dropped: the flag says whether a word stands before the stretch
 abbrev pub kept : Bool → List ℕ → List ℕ
-kept after_word stretch = if after_word && list_all is_white stretch then [] else stretch
+kept after_word stretch = if after_word && is_blank stretch then [] else stretch
 
 abbrev pub rewritten : Bool → Pieces → Pieces
 rewritten after_word (Last s) = Last s

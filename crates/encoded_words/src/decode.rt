@@ -1,16 +1,14 @@
 //! The words in bytes, and what stands between them.
 ghost use Rattle.std.specs.Prelude.{◌≡◌, ◌++◌, ◌<◌, IfOk, OnOk, MatchOption, length};
-ghost use Rattle.std.specs.List.{list_all};
 ghost use Rattle.std.specs.String.{string_bytes};
 ghost use Rattle.kit.specs.declared.charset.Charset.TheVariants.{Utf8};
 ghost use Rattle.kit.specs.Charsets.{to_text};
-ghost use Rattle.kit.specs.White.{is_white};
 ghost use Rattle.encoded_words.specs.Words.{word_text};
 ghost use Rattle.encoded_words.specs.Views.{found};
 ghost use Rattle.encoded_words.specs.Pieces.{Last, Next, pieces, kept, decode_words};
 
 use crate::word::{Word, word_at};
-use kit::{Charset, Memory, Text, is_white, to_text};
+use kit::{Charset, Memory, Text, is_blank, to_text};
 use std::alloc::Global;
 
 /// The first word in bytes, with the stretch before it.
@@ -24,12 +22,6 @@ fn first_word(bytes: &[u8]) -> Option<(&[u8], Word<'_>)>
         }
     }
     None
-}
-
-fn is_blank(stretch: &[u8]) -> bool
-    ensures { result ≡ list_all is_white stretch.now }
-{
-    stretch.iter().all(|b| is_white(*b))
 }
 
 /// What stays of a stretch before a word.

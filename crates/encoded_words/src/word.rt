@@ -1,12 +1,11 @@
 //! One encoded word.
 ghost use Rattle.std.specs.Prelude.{◌≡◌, IfOk, map, option_map};
-ghost use Rattle.std.specs.Option.{option_copied};
-ghost use Rattle.kit.specs.Cuts.{behind};
 ghost use Rattle.encoded_words.specs.Words.{without_language, coding_of, word_at, spaced, coded_bytes, word_text};
 ghost use Rattle.encoded_words.specs.Views.{found};
 
 use kit::{
-    Charset, Memory, Text, charset_of, is_printing, is_visible, same_name, split_once, to_text,
+    Charset, Memory, Text, behind, charset_of, is_printing, is_visible, same_name, split_once,
+    to_text,
 };
 use std::alloc::Global;
 use transfer_code::{Encoding, decode_body, unescaped};
@@ -28,12 +27,6 @@ pub struct Word<'a> {
     text: &'a [u8],
     /// The bytes behind the word.
     pub rest: &'a [u8],
-}
-
-fn behind<'a>(front: &[u8], bytes: &'a [u8]) -> Option<&'a [u8]>
-    ensures { option_copied result ≡ behind front.now bytes.now }
-{
-    bytes.strip_prefix(front)
 }
 
 /// The name of a charset, without a language behind it.

@@ -6,7 +6,7 @@ ghost use Rattle.std.specs.List.{list_all};
 ghost use Rattle.std.specs.Option.{option_copied};
 ghost use Rattle.follow.specs.Words.{is_value, joined, moment_of, moment_if_given, trial_of, own_address};
 
-use kit::{Addr, LAST_MOMENT, Memory, Text};
+use kit::{Addr, LAST_MOMENT, Memory, Text, behind};
 use mail_address::people;
 use mail_date::number;
 use std::alloc::Global;
@@ -62,7 +62,7 @@ fn is_value(word: &[u8]) -> bool
 fn joined<'a>(name: &[u8], word: &'a [u8]) -> Option<&'a [u8]>
     ensures { option_copied result ≡ joined name.now word.now }
 {
-    word.strip_prefix(name)?.strip_prefix(b"=".as_slice())
+    behind(b"=", behind(name, word)?)
 }
 
 /// The moment that a word of 1 to 12 digits tells, if it is one from 1970 to 9999.

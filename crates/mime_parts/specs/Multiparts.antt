@@ -1,13 +1,13 @@
 -- The body of a multipart, cut at its delimiter lines (RFC 2046, section 5.1.1).
 use Rattle.std.specs.Prelude.{ℕ, Bool, ◌+◌, ◌-◌, ◌&&◌, ◌||◌, nat_eq, true, false, if◌then◌else◌, List, [], ◌∷◌, ◌++◌, length, take, drop, codes, flat_map, All, IsTrue, Option, option_map, ◌≡◌}
-use Rattle.std.specs.List.{concat, list_all, starts_with}
+use Rattle.std.specs.List.{concat, starts_with}
 use Rattle.kit.specs.Lines.{content, ending_len, raw_lines}
-use Rattle.kit.specs.White.{is_white}
+use Rattle.kit.specs.White.{is_blank}
 use Rattle.mime_parts.specs.declared.multipart.Span.{Span}
 
 -- whether a line is this text, with nothing but white space behind it
 abbrev pub is_only : List ℕ → List ℕ → Bool
-is_only text line = starts_with nat_eq line text && list_all is_white (drop (length text) line)
+is_only text line = starts_with nat_eq line text && is_blank (drop (length text) line)
 
 -- the text of a delimiter line
 abbrev pub delimiter_text : List ℕ → List ℕ

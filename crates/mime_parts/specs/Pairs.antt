@@ -1,13 +1,13 @@
 -- A parameter as it is written: `name=value` (RFC 2045, section 5.1).
 use Rattle.std.specs.Prelude.{ℕ, Bool, false, not, ◌&&◌, ◌==◌, if◌then◌else◌, List, [], ◌∷◌, filter_map, find, bytes_eq, Option, Some, None, option_map, unwrap_or}
-use Rattle.std.specs.List.{before_first, list_all}
+use Rattle.std.specs.List.{before_first}
 use Rattle.kit.specs.declared.charset.Charset.TheVariants.{Utf8}
 use Rattle.kit.specs.Charsets.{to_text}
 use Rattle.kit.specs.Comments.{begins_pair}
 use Rattle.kit.specs.Cuts.{split_once}
 use Rattle.kit.specs.Letters.{lowered}
 use Rattle.kit.specs.Options.{◌>>=◌}
-use Rattle.kit.specs.White.{is_white, trim}
+use Rattle.kit.specs.White.{is_blank, trim}
 use Rattle.mime_parts.specs.declared.pair.Pair.{Pair}
 use Rattle.mime_parts.specs.Pieces.{further_pieces}
 
@@ -25,7 +25,7 @@ inside bytes = inside_from false bytes
 
 -- what stands behind the `"` of a quoted string, where nothing but white space stands before it
 abbrev pub behind_quote : List ℕ → Option (List ℕ)
-behind_quote text = split_once text 34 >>= λ parts. if list_all is_white parts.0 then Some parts.1 else None
+behind_quote text = split_once text 34 >>= λ parts. if is_blank parts.0 then Some parts.1 else None
 
 -- a value that is no quoted string ends before the `(` (40) of a comment
 abbrev pub bare : List ℕ → List ℕ

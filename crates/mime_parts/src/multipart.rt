@@ -2,8 +2,7 @@
 ghost use Rattle.std.specs.Prelude.{◌≡◌, ℕ, List, ◌<◌, ◌+◌, ◌^◌, ◌++◌, IfOk, OnOk, length, option_to_list};
 ghost use Rattle.mime_parts.specs.Multiparts.{closing_text, delimiter_text, is_only, reaching, spans};
 
-use crate::pair::is_blank;
-use kit::{Memory, content};
+use kit::{Memory, content, is_blank};
 use std::alloc::Global;
 
 /// Where a part stands in the body of a mail.

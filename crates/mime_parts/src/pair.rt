@@ -1,13 +1,11 @@
 //! Parameters as they are written.
 ghost use Rattle.std.specs.Prelude.{◌≡◌, IfOk, map};
-ghost use Rattle.std.specs.List.{before_first, list_all};
 ghost use Rattle.std.specs.Option.{option_copied};
 ghost use Rattle.kit.specs.Letters.{lowered};
-ghost use Rattle.kit.specs.White.{is_white};
 ghost use Rattle.mime_parts.specs.Pairs.{bare, behind_quote, inside, name_of, pair_of, pairs, value_of};
 
 use crate::piece::further_pieces;
-use kit::{Bytes, Charset, Memory, Text, begins_pair, is_white, lower, split_once, to_text, trim};
+use kit::{Bytes, Charset, Memory, Text, begins_pair, is_blank, lower, split_once, to_text, trim};
 use std::alloc::Global;
 
 /// A parameter as it is written, `name=value` (RFC 2045, section 5.1).
@@ -35,13 +33,6 @@ fn inside(alloc: Global, bytes: &[u8]) -> Result<Bytes, Memory>
         }
     }
     Ok(Bytes::from(value))
-}
-
-/// Whether bytes are all white space, or none.
-pub fn is_blank(bytes: &[u8]) -> bool
-    ensures { result ≡ list_all is_white bytes.now }
-{
-    bytes.iter().all(|b| is_white(*b))
 }
 
 /// What stands behind the quote that a value begins with.
