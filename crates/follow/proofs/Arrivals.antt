@@ -11,7 +11,8 @@ use Rattle.std.proofs.lemmas.Map.Lookups.{exact_unsigned}
 use Rattle.follow.specs.declared.card.Card.{Card}
 use Rattle.follow.specs.declared.mail.Mail.{Mail}
 use Rattle.follow.specs.declared.mail.Spot.{Spot}
-use Rattle.follow.specs.Mailbox.{arrivals, item, mail_cmp, mail_of, sorted_by}
+use Rattle.mailbox_model.specs.Lists.{sorted_by}
+use Rattle.follow.specs.Mailbox.{arrivals, item, mail_cmp, mail_of}
 use Rattle.follow.proofs.Sorted.{insert_entry-sorted_by, keyed, then_Equal}
 
 -- one more arrives

@@ -1,12 +1,9 @@
 -- Lists of which no two are alike.
-use Rattle.std.proofs.Common.{◌≡◌, ℕ, Bool, true, false, cond, not, ◌+◌, ◌<◌, List, [], ◌∷◌, ◌++◌, length, take, drop, get_or, map, refl, ap, sym, ◌∙◌, arith, inl, inr, append_assoc}
-use Rattle.std.specs.Cmp.Lexicographic.{slice_cmp}
-use Rattle.std.specs.Ordering.{is_eq, nat_cmp}
+use Rattle.std.proofs.Common.{◌≡◌, ℕ, true, false, not, ◌+◌, ◌<◌, List, [], ◌∷◌, ◌++◌, length, take, drop, get_or, map, refl, ap, sym, ◌∙◌, arith, inl, inr, append_assoc}
 use Rattle.std.specs.List.{list_any}
 use Rattle.std.specs.Str.{bytes_eq}
 use Rattle.std.proofs.lemmas.Bool.{cases_Bool, and_parts, or_parts, not-true}
 use Rattle.std.proofs.lemmas.Cmp.{nat_list_eq_equiv}
-use Rattle.std.proofs.lemmas.Map.Text.{is_eq-slice_cmp}
 use Rattle.std.proofs.lemmas.Bool.Decides.{nat_tests}
 use Rattle.std.proofs.lemmas.List.{take_more, take-append-drop, map-append}
 use Rattle.std.proofs.lemmas.List.Folds.{list_any-append}
@@ -50,8 +47,3 @@ ids_more cards i card lt is =
       ap (map (λ (card : Card). card.id)) (sym (take-append-drop (i + 1) cards)) ∙ map-append (λ (card : Card). card.id) (take (i + 1) cards) (drop (i + 1) cards)
           ∙ ap (λ front. front ++ map (λ card. card.id) (drop (i + 1) cards)) ids ∙ append_assoc (map (λ card. card.id) (take i cards)) (card.id ∷ []) (map (λ card. card.id) (drop (i + 1) cards)),
     )
-
--- a set of which a key was added has that key, and those that it had
-pub member_more : (xs : List (List ℕ)) (key q : List ℕ) (had : Bool) → had ≡ list_any (bytes_eq q) xs → cond (is_eq (slice_cmp nat_cmp key q)) true had ≡ list_any (bytes_eq q) (xs ++ key ∷ [])
-member_more xs key q had is =
-    rw (is_eq-slice_cmp key q, bytes_eq-swap key q, list_any-append (bytes_eq q) xs (key ∷ []), is) (grind (arith, nat_tests))

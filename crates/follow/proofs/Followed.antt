@@ -2,7 +2,8 @@
 use Rattle.std.proofs.Common.{◌≡◌, ℕ, ◌+◌, max, List, [], ◌∷◌, ◌++◌, map, ap, sym, ◌∙◌, arith, append_assoc}
 use Rattle.std.proofs.lemmas.List.{append-nil, map-append}
 use Rattle.follow.specs.declared.card.Card.{Card}
-use Rattle.follow.specs.Mailbox.{Item, Mailbox, item, after_all, mail_of, mail_cmp, sorted_by, arrivals}
+use Rattle.mailbox_model.specs.Lists.{sorted_by}
+use Rattle.follow.specs.Mailbox.{Item, Mailbox, item, after_all, mail_of, mail_cmp, arrivals}
 use Rattle.follow.specs.Mailbox.Change.{Arrive}
 use Rattle.follow.specs.Lists.{list, list_of}
 use Rattle.follow.specs.Outcome.{followed}

@@ -12,7 +12,6 @@ pub mod PlainCards
 pub mod Ranks
 pub mod Refused
 mod Rows
-pub mod Senders
 pub mod Sorted
 pub mod Taken
 pub mod TrialNumbers

@@ -16,7 +16,7 @@ use Rattle.follow.specs.declared.list.ListRow.{ListRow}
 use Rattle.follow.specs.declared.list.Rank.{Rank}
 use Rattle.follow.specs.declared.mail.Mail.{Mail}
 use Rattle.follow.specs.Lists.{is_from, last_where, latest_cmp, list_row, row_cmp}
-use Rattle.follow.specs.Mailbox.{sorted_by}
+use Rattle.mailbox_model.specs.Lists.{sorted_by}
 use Rattle.follow.proofs.ListLemmas.{All-fold, IfSome-find}
 use Rattle.follow.proofs.Sorted.{insert_entry-sorted_by, keyed, then_Equal}
 

@@ -9,7 +9,7 @@ use Rattle.std.specs.Map.{values_of}
 use Rattle.std.specs.Ordering.{is_lt, match_ordering, ordering_then}
 use Rattle.std.proofs.lemmas.List.Elements.{All-nil, All-cons, All-head, All-tail}
 use Rattle.std.proofs.lemmas.List.Sums.{fold-append}
-use Rattle.follow.specs.Mailbox.{insert_sorted, sorted_by}
+use Rattle.mailbox_model.specs.Lists.{put_in, sorted_by}
 use Rattle.follow.proofs.ListLemmas.{All-fold}
 
 -- what ties in order ties in the second part of the order
@@ -20,20 +20,20 @@ then_Equal Greater p tie = cc
 
 module _ {X : Type 0} (cmp : X → X → Ordering) where
   -- one more is inserted
-  sorted_by-push : (xs : List X) (x : X) → sorted_by cmp (xs ++ x ∷ []) ≡ insert_sorted cmp x (sorted_by cmp xs)
-  sorted_by-push xs x = fold-append (λ sorted y. insert_sorted cmp y sorted) [] xs (x ∷ [])
+  sorted_by-push : (xs : List X) (x : X) → sorted_by cmp (xs ++ x ∷ []) ≡ put_in cmp x (sorted_by cmp xs)
+  sorted_by-push xs x = fold-append (λ sorted y. put_in cmp y sorted) [] xs (x ∷ [])
 
   -- what holds of each holds of each after an insert
-  All-insert_sorted : (P : X → Type 0) (ys : List X) (x : X) → P x → All P ys → All P (insert_sorted cmp x ys)
-  All-insert_sorted P [] x here all = All-cons P x [] here all
-  All-insert_sorted P (y ∷ ys) x here all =
+  All-put_in : (P : X → Type 0) (ys : List X) (x : X) → P x → All P ys → All P (put_in cmp x ys)
+  All-put_in P [] x here all = All-cons P x [] here all
+  All-put_in P (y ∷ ys) x here all =
       let before = All-cons P x (y ∷ ys) here all in
-      let behind = All-cons P y (insert_sorted cmp x ys) (All-head P y ys all) (All-insert_sorted P ys x here (All-tail P y ys all)) in
-      elim (cmp x y) as (λ o. All P (if is_lt o then x ∷ y ∷ ys else y ∷ insert_sorted cmp x ys)) [ Less ↦ before | Equal ↦ behind | Greater ↦ behind ]
+      let behind = All-cons P y (put_in cmp x ys) (All-head P y ys all) (All-put_in P ys x here (All-tail P y ys all)) in
+      elim (cmp x y) as (λ o. All P (if is_lt o then x ∷ y ∷ ys else y ∷ put_in cmp x ys)) [ Less ↦ before | Equal ↦ behind | Greater ↦ behind ]
 
   -- what holds of each holds of each in order
   pub All-sorted_by : (P : X → Type 0) (xs : List X) → All P xs → All P (sorted_by cmp xs)
-  All-sorted_by P xs all = All-fold P (λ sorted x. insert_sorted cmp x sorted) (All-insert_sorted P) [] xs (All-nil P) all
+  All-sorted_by P xs all = All-fold P (λ sorted x. put_in cmp x sorted) (All-put_in P) [] xs (All-nil P) all
 
 module _ {K X : Type 0} (key : X → K) where
   -- each value under its key
@@ -47,20 +47,20 @@ module _ {K X : Type 0} (key : X → K) where
 
   module _ (order : K → K → Ordering) (cmp : X → X → Ordering) (agrees : (x y : X) → order (key x) (key y) ≡ cmp x y) where
     -- under a key that is new, the entry of a value comes to stand where the value does
-    insert_entry-insert_sorted : (ys : List X) (x : X) → All (λ y. cmp x y ≢ Equal) ys → insert_entry order (keyed ys) (key x) x ≡ keyed (insert_sorted cmp x ys)
-    insert_entry-insert_sorted [] x new = refl
-    insert_entry-insert_sorted (y ∷ ys) x new =
+    insert_entry-put_in : (ys : List X) (x : X) → All (λ y. cmp x y ≢ Equal) ys → insert_entry order (keyed ys) (key x) x ≡ keyed (put_in cmp x ys)
+    insert_entry-put_in [] x new = refl
+    insert_entry-put_in (y ∷ ys) x new =
         let New : X → Type 0 = λ z. cmp x z ≢ Equal in
         let entries : Ordering → List (K × X) = λ o.
         match_ordering o (keyed (x ∷ y ∷ ys)) ((key y, x) ∷ keyed ys) ((key y, y) ∷ insert_entry order (keyed ys) (key x) x) in
         ap entries (agrees x y)
-        ∙ elim (cmp x y) as (λ o. cmp x y ≡ o → entries o ≡ keyed (if is_lt o then x ∷ y ∷ ys else y ∷ insert_sorted cmp x ys)) [
+        ∙ elim (cmp x y) as (λ o. cmp x y ≡ o → entries o ≡ keyed (if is_lt o then x ∷ y ∷ ys else y ∷ put_in cmp x ys)) [
           | Less ↦ λ _. refl
           | Equal ↦ λ tie. absurd (All-head New y ys new tie)
-          | Greater ↦ λ _. ap (λ es. (key y, y) ∷ es) (insert_entry-insert_sorted ys x (All-tail New y ys new))
+          | Greater ↦ λ _. ap (λ es. (key y, y) ∷ es) (insert_entry-put_in ys x (All-tail New y ys new))
         ] refl
 
     -- so the entries of sorted values, and one more, are those of the values and one more, sorted
     pub insert_entry-sorted_by : (xs : List X) (x : X) → All (λ y. cmp x y ≢ Equal) xs → insert_entry order (keyed (sorted_by cmp xs)) (key x) x ≡ keyed (sorted_by cmp (xs ++ x ∷ []))
     insert_entry-sorted_by xs x new =
-        insert_entry-insert_sorted (sorted_by cmp xs) x (All-sorted_by cmp (λ y. cmp x y ≢ Equal) xs new) ∙ ap keyed (sym (sorted_by-push cmp xs x))
+        insert_entry-put_in (sorted_by cmp xs) x (All-sorted_by cmp (λ y. cmp x y ≢ Equal) xs new) ∙ ap keyed (sym (sorted_by-push cmp xs x))

@@ -1,18 +1,15 @@
 -- The list of chats. A mail of a plain mbox is to oneself alone and from another, so its chat is the one with its sender;
 -- it is shown, received and unseen.
-use Rattle.std.specs.Prelude.{ℕ, Bool, ◌&&◌, not, nat_lt, bytes_eq, List, [], ◌∷◌, length, map, filter, reverse, find, count_by, Option, Some, None, option_map, unwrap_or}
+use Rattle.std.specs.Prelude.{ℕ, Bool, ◌&&◌, nat_lt, bytes_eq, List, [], length, map, reverse, find, count_by, Option, Some, None, option_map, unwrap_or}
 use Rattle.std.specs.declared.cmp.Ordering.{Ordering}
 use Rattle.std.specs.declared.cmp.Ordering.TheVariants.{Less, Equal, Greater}
 use Rattle.std.specs.Ordering.{nat_cmp, ordering_then}
 use Rattle.std.specs.Cmp.Lexicographic.{slice_cmp}
+use Rattle.kit.specs.Distinct.{each_once}
+use Rattle.mailbox_model.specs.Lists.{sorted_by}
 use Rattle.follow.specs.declared.mail.Mail.{Mail}
 use Rattle.follow.specs.declared.list.ListRow.{ListRow}
-use Rattle.follow.specs.Mailbox.{Mailbox, present, sorted_by}
-
--- of those that are alike only the first
-abbrev pub each_once : List (List ℕ) → List (List ℕ)
-each_once [] = []
-each_once (x ∷ xs) = x ∷ filter (λ y. not (bytes_eq x y)) (each_once xs)
+use Rattle.follow.specs.Mailbox.{Mailbox, present}
 
 -- the last that passes a test
 abbrev pub last_where : {X : Type 0} → (X → Bool) → List X → Option X

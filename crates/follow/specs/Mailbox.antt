@@ -1,8 +1,9 @@
 -- The mailbox, how a change changes it, and mail order.
-use Rattle.std.specs.Prelude.{ℕ, ◌+◌, min, max, if◌then◌else◌, List, [], ◌∷◌, ◌++◌, map, fold}
+use Rattle.std.specs.Prelude.{ℕ, ◌+◌, min, max, List, [], ◌∷◌, ◌++◌, map}
 use Rattle.std.specs.declared.cmp.Ordering.{Ordering}
-use Rattle.std.specs.Ordering.{nat_cmp, ordering_then, is_lt}
+use Rattle.std.specs.Ordering.{nat_cmp, ordering_then}
 use Rattle.std.specs.Cmp.Lexicographic.{slice_cmp}
+use Rattle.mailbox_model.specs.Lists.{sorted_by}
 use Rattle.follow.specs.declared.card.Card.{Card}
 use Rattle.follow.specs.declared.mail.Mail.{Mail}
 
@@ -44,14 +45,6 @@ mail_of i = record { date = min i.card.date i.arrival; uid = i.uid; card = i.car
 abbrev pub mail_cmp : Mail → Mail → Ordering
 mail_cmp a b =
     ordering_then (nat_cmp a.date b.date) (ordering_then (slice_cmp nat_cmp a.card.id b.card.id) (nat_cmp a.uid b.uid))
-
--- x put before the first element that it is below
-abbrev pub insert_sorted : {X : Type 0} → (X → X → Ordering) → X → List X → List X
-insert_sorted cmp x [] = x ∷ []
-insert_sorted cmp x (y ∷ ys) = if is_lt (cmp x y) then x ∷ y ∷ ys else y ∷ insert_sorted cmp x ys
-
-abbrev pub sorted_by : {X : Type 0} → (X → X → Ordering) → List X → List X
-sorted_by cmp xs = fold (λ sorted x. insert_sorted cmp x sorted) [] xs
 
 -- The cards in mail order. No two mails of a plain mbox have one id, so each of them is present.
 abbrev pub present : Mailbox → List Mail

@@ -1,7 +1,8 @@
 //! The list of chats.
 ghost use Rattle.std.specs.Prelude.{◌≡◌, ◌≤◌, ℕ, IfOk, IfSome, All, map, count_by};
 ghost use Rattle.std.specs.Option.{option_copied};
-ghost use Rattle.follow.specs.Lists.{each_once, is_from, is_named_from, last_where, list_row, contact_name, body_of, list_of};
+ghost use Rattle.kit.specs.Distinct.{each_once};
+ghost use Rattle.follow.specs.Lists.{is_from, is_named_from, last_where, list_row, contact_name, body_of, list_of};
 
 use crate::mail::Mail;
 use crate::utf8::text_of;

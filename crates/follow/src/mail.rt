@@ -1,6 +1,7 @@
 //! The mails of the mailbox in mail order.
 ghost use Rattle.std.specs.Prelude.{◌≡◌, ◌≤◌, IfOk, All};
-ghost use Rattle.follow.specs.Mailbox.{sorted_by, mail_cmp, arrivals};
+ghost use Rattle.mailbox_model.specs.Lists.{sorted_by};
+ghost use Rattle.follow.specs.Mailbox.{mail_cmp, arrivals};
 
 use crate::card::Card;
 use kit::{Id, Memory};

@@ -21,8 +21,9 @@ use Rattle.mailbox_model.specs.Present.{Mail, mails, same_id, present, contents}
 use Rattle.mailbox_model.specs.Chats.{Known, chat_at, chats, chat, is_chat, cites, cites_of, chat_mails}
 use Rattle.mailbox_model.specs.Pages.{keys, page_of, page}
 use Rattle.mailbox_model.specs.ChatList.{list, list_row, list_cmp, latest_cmp}
+use Rattle.kit.proofs.Distinct.{IsDistinct-filter, IsDistinct-firsts}
 use Rattle.mailbox_model.proofs.OrderLaws.{Rising, below_of, never_back, apart, second_Equal, sorted_from}
-use Rattle.mailbox_model.proofs.PutLaws.{agree, None_of, All-put_in, Placed, Rising-put_in, find-firsts, list_any-found, IsDistinct-filter, IsDistinct-firsts}
+use Rattle.mailbox_model.proofs.PutLaws.{agree, None_of, All-put_in, Placed, Rising-put_in, find-firsts, list_any-found}
 use Rattle.mailbox_model.proofs.PresentLaws.{permuted}
 use Rattle.mailbox_model.proofs.ChatLaws.{same_bytes, ids-chats_after}
 use Rattle.mailbox_model.proofs.MailLaws.{bytes_turn}

@@ -9,7 +9,8 @@ use Rattle.std.specs.Ordering.{is_lt, ordering_then, ordering_reverse}
 use Rattle.std.specs.Cmp.{IsTotalOrder}
 use Rattle.std.specs.List.Sorted.{IsStrictlySortedBy}
 use Rattle.std.proofs.lemmas.Bool.{false≢true}
-use Rattle.mailbox_model.specs.Lists.{put_in, firsts}
+use Rattle.kit.specs.Distinct.{firsts}
+use Rattle.mailbox_model.specs.Lists.{put_in}
 
 module _ {X : Type 0} (cmp : X → X → Ordering) where
   -- x is below each of them

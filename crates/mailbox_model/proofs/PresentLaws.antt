@@ -12,8 +12,9 @@ use Rattle.std.proofs.lemmas.List.Sorted.{IsPermutation-refl, IsPermutation-cons
 use Rattle.mailbox_model.specs.Lists.{Bytes, put_in, sorted_by}
 use Rattle.mailbox_model.specs.Mailbox.{Mailbox, RiseBelow}
 use Rattle.mailbox_model.specs.Present.{mail_of, mail_cmp, mails, has_id, same_id, present}
+use Rattle.kit.proofs.Distinct.{IsDistinct-firsts}
 use Rattle.mailbox_model.proofs.OrderLaws.{Rising-firsts, sorted_from}
-use Rattle.mailbox_model.proofs.PutLaws.{find-firsts, IsDistinct-firsts}
+use Rattle.mailbox_model.proofs.PutLaws.{find-firsts}
 use Rattle.mailbox_model.proofs.MailLaws.{order, line_of}
 
 -- ---- a sorted list has the same elements

@@ -5,7 +5,8 @@ use Rattle.std.specs.List.{list_any, filter, find, AllByRecursion, IsDistinct}
 use Rattle.std.specs.declared.cmp.Ordering.{Ordering}
 use Rattle.std.specs.Ordering.{is_lt}
 use Rattle.std.proofs.lemmas.Bool.{both_ways}
-use Rattle.mailbox_model.specs.Lists.{put_in, firsts}
+use Rattle.kit.specs.Distinct.{firsts}
+use Rattle.mailbox_model.specs.Lists.{put_in}
 use Rattle.mailbox_model.proofs.OrderLaws.{Above, Rising, Above-through, insert-above, IsAlike, IsBelow, is_behind}
 
 -- two tests that imply each other agree
@@ -102,21 +103,6 @@ find-firsts {X} same p h (x ∷ xs) =
 pub list_any-found : {X : Type 0} (p : X → Bool) (xs : List X) → list_any p xs ≡ is_some (find p xs)
 list_any-found p [] = refl
 list_any-found p (x ∷ xs) = elim (p x) as (λ b. (b || list_any p xs) ≡ is_some (cond b (Some x) (find p xs))) [ true ↦ refl | false ↦ list_any-found p xs ]
-
-pub IsDistinct-filter : {X : Type 0} (same : X → X → Bool) (p : X → Bool) (xs : List X) → IsDistinct same xs
-    → IsDistinct same (filter p xs)
-unfolding IsDistinct
-IsDistinct-filter same p [] d = tt
-IsDistinct-filter same p (x ∷ xs) d =
-    elim (p x) as (λ b. IsDistinct same (cond b (x ∷ filter p xs) (filter p xs))) [
-      | true ↦ (All-filter (λ y. same x y ≡ false) p xs d.0, IsDistinct-filter same p xs d.1)
-      | false ↦ IsDistinct-filter same p xs d.1
-    ]
-
-pub IsDistinct-firsts : {X : Type 0} (same : X → X → Bool) (xs : List X) → IsDistinct same (firsts same xs)
-unfolding IsDistinct
-IsDistinct-firsts same [] = tt
-IsDistinct-firsts same (x ∷ xs) = (filter_none (same x) (firsts same xs), IsDistinct-filter same (λ y. not (same x y)) (firsts same xs) (IsDistinct-firsts same xs))
 
 -- ---- where one is put in
 

@@ -7,16 +7,18 @@ use Rattle.std.specs.Ordering.{is_lt}
 use Rattle.std.specs.Cmp.Lexicographic.{bytes_decides}
 use Rattle.std.proofs.lemmas.Bool.{both_ways, eqb-true, ltb-true, ltb-false, and_parts}
 use Rattle.std.proofs.lemmas.List.Elements.{All-contains_itself, recursion_from_All}
+use Rattle.kit.specs.Distinct.{firsts}
 use Rattle.card_type.specs.declared.card.Card.{Card}
 use Rattle.mailbox_model.specs.declared.change.Change.{Change}
 use Rattle.mailbox_model.specs.declared.change.Change.TheVariants.{Arrive, ArriveFault, Expunge, Seen, At}
 use Rattle.mailbox_model.specs.declared.turn.Turn.TheVariants.{Nothing, Replace, Marked, Moved}
-use Rattle.mailbox_model.specs.Lists.{put_in, firsts}
+use Rattle.mailbox_model.specs.Lists.{put_in}
 use Rattle.mailbox_model.specs.Mailbox.{Mailbox, after, RiseBelow}
 use Rattle.mailbox_model.specs.Present.{Mail, spot, mail_cmp, mails, same_id, present}
 use Rattle.mailbox_model.specs.Turns.{arriving, has_mail_uid, is_unseen, seen_at, turn, turn_in, turn_to, turn_out, Turns, MovesClock, IsTurn}
+use Rattle.kit.proofs.Distinct.{IsDistinct-firsts}
 use Rattle.mailbox_model.proofs.OrderLaws.{Rising, Rising-filter, Rising-firsts, firsts-insert, is_behind, unlike}
-use Rattle.mailbox_model.proofs.PutLaws.{None_of, none_found, none_from_found, none_filtered, filter_none, All-filter, All-firsts, found_all, found_passes, find-firsts, IsDistinct-firsts, find-put_in, OneAtMost, one_at_most, put_back, behind_none, behind_first}
+use Rattle.mailbox_model.proofs.PutLaws.{None_of, none_found, none_from_found, none_filtered, filter_none, All-filter, All-firsts, found_all, found_passes, find-firsts, find-put_in, OneAtMost, one_at_most, put_back, behind_none, behind_first}
 use Rattle.mailbox_model.proofs.MailLaws.{is_below, is_never_back, is_alike, same_uid, uid_alike, line_of, mails-arrive, mails-fault, mails-expunge, mails-seen}
 
 -- what was there with the id of y, and may stand before it or after it

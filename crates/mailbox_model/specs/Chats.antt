@@ -3,13 +3,14 @@ use Rattle.std.specs.Prelude.{◌≡◌, Bool, false, Option, Some, None, List, 
 use Rattle.std.specs.List.{list_any}
 use Rattle.std.specs.Option.{option_map_or, option_or}
 use Rattle.std.specs.Str.{bytes_eq}
+use Rattle.kit.specs.Distinct.{each_once}
 use Rattle.kit.specs.Options.{◌>>=◌}
 use Rattle.card_type.specs.declared.card.Card.{Card}
 use Rattle.card_type.specs.declared.key.ChatKey.{ChatKey}
 use Rattle.card_type.specs.declared.key.ChatKey.TheVariants.{SelfChat, Single, Group, Thread}
 use Rattle.card_type.specs.Keys.{key_eq}
 use Rattle.mailbox_model.specs.declared.links.Cites.{Cites}
-use Rattle.mailbox_model.specs.Lists.{Bytes, each_once, without, first_some}
+use Rattle.mailbox_model.specs.Lists.{Bytes, without, first_some}
 use Rattle.mailbox_model.specs.Mailbox.{Mailbox}
 use Rattle.mailbox_model.specs.Present.{Mail, spot, contents}
 

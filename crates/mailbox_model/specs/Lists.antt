@@ -1,5 +1,5 @@
 -- Words on lists.
-use Rattle.std.specs.Prelude.{ℕ, Bool, not, if◌then◌else◌, Option, Some, None, List, [], ◌∷◌, filter, fold}
+use Rattle.std.specs.Prelude.{ℕ, not, if◌then◌else◌, Option, Some, None, List, [], ◌∷◌, filter, fold}
 use Rattle.std.specs.Option.{option_or}
 use Rattle.std.specs.Str.{bytes_eq}
 use Rattle.std.specs.declared.cmp.Ordering.{Ordering}
@@ -8,14 +8,6 @@ use Rattle.std.specs.Ordering.{is_lt}
 -- ids, addresses and texts
 abbrev pub Bytes : Type 0
 Bytes = List ℕ
-
--- of elements that are alike only the first
-abbrev pub firsts : {X : Type 0} → (X → X → Bool) → List X → List X
-firsts alike [] = []
-firsts alike (x ∷ xs) = x ∷ filter (λ y. not (alike x y)) (firsts alike xs)
-
-abbrev pub each_once : List Bytes → List Bytes
-each_once xs = firsts bytes_eq xs
 
 -- all but this one
 abbrev pub without : Bytes → List Bytes → List Bytes

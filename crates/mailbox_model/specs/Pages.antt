@@ -1,13 +1,14 @@
 -- The page of a chat.
 use Rattle.std.specs.Prelude.{if◌then◌else◌, Option, Some, None, find, filter_map, map, List}
 use Rattle.std.specs.List.{list_any}
+use Rattle.kit.specs.Distinct.{firsts}
 use Rattle.kit.specs.Options.{◌>>=◌}
 use Rattle.card_type.specs.declared.key.ChatKey.{ChatKey}
 use Rattle.card_type.specs.Keys.{key_eq}
 use Rattle.mailbox_model.specs.declared.row.UpdateRow.{UpdateRow}
 use Rattle.mailbox_model.specs.declared.row.Row.{Row}
 use Rattle.mailbox_model.specs.declared.page.ChatPage.{ChatPage}
-use Rattle.mailbox_model.specs.Lists.{Bytes, firsts}
+use Rattle.mailbox_model.specs.Lists.{Bytes}
 use Rattle.mailbox_model.specs.Mailbox.{Mailbox}
 use Rattle.mailbox_model.specs.Present.{has_id, contents}
 use Rattle.mailbox_model.specs.Chats.{chats, chat_mails}

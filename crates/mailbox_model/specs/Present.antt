@@ -4,12 +4,13 @@ use Rattle.std.specs.Option.{option_map_or}
 use Rattle.std.specs.Str.{bytes_eq}
 use Rattle.std.specs.declared.cmp.Ordering.{Ordering}
 use Rattle.std.specs.Ordering.{on}
+use Rattle.kit.specs.Distinct.{firsts}
 use Rattle.card_type.specs.declared.card.Card.{Card}
 use Rattle.card_type.specs.declared.spot.Spot.{Spot}
 use Rattle.card_type.specs.Kinds.{kind_of, is_content}
 use Rattle.card_type.specs.Spots.{spot_cmp}
 use Rattle.mailbox_model.specs.declared.change.Fault.{Fault}
-use Rattle.mailbox_model.specs.Lists.{Bytes, firsts, sorted_by}
+use Rattle.mailbox_model.specs.Lists.{Bytes, sorted_by}
 use Rattle.mailbox_model.specs.Mailbox.{Mailbox, Item}
 
 -- the lesser of the date and the arrival, and the arrival where there is no date

@@ -1,13 +1,14 @@
 -- Who is in a chat, how a group or thread is called, and when its mails vanish.
 use Rattle.std.specs.Prelude.{ℕ, Bool, true, false, not, ◌&&◌, ◌||◌, if◌then◌else◌, is_some, List, [], ◌∷◌, ◌++◌, map, fold}
 use Rattle.std.specs.Option.{option_map_or, option_to_list}
+use Rattle.kit.specs.Distinct.{each_once}
 use Rattle.card_type.specs.declared.card.Card.{Card}
 use Rattle.card_type.specs.declared.key.ChatKey.{ChatKey}
 use Rattle.card_type.specs.declared.key.ChatKey.TheVariants.{SelfChat, Single, Group, Thread}
 use Rattle.card_type.specs.Effects.{is_among}
 use Rattle.card_type.specs.Kinds.{has_some}
 use Rattle.mailbox_model.specs.declared.roster.Roster.{Roster}
-use Rattle.mailbox_model.specs.Lists.{Bytes, each_once, without}
+use Rattle.mailbox_model.specs.Lists.{Bytes, without}
 use Rattle.mailbox_model.specs.Mailbox.{Mailbox}
 use Rattle.mailbox_model.specs.Chats.{people, chat_mails}
 

@@ -3,6 +3,7 @@ use Rattle.std.specs.Prelude.{ℕ, ◌+◌, Bool, true, false, ◌||◌, nat_lt,
 use Rattle.std.specs.List.{enumerate_from}
 use Rattle.std.specs.Option.{option_map_or}
 use Rattle.std.specs.Str.{bytes_eq}
+use Rattle.kit.specs.Distinct.{firsts}
 use Rattle.card_type.specs.declared.card.Card.{Card}
 use Rattle.card_type.specs.declared.card.Update.{Update}
 use Rattle.card_type.specs.declared.effect.Effect.{Effect}
@@ -13,7 +14,7 @@ use Rattle.mailbox_model.specs.declared.row.Mark.{Mark}
 use Rattle.mailbox_model.specs.declared.row.Mark.TheVariants.{Out, New, Seen}
 use Rattle.mailbox_model.specs.declared.row.UpdateRow.{UpdateRow}
 use Rattle.mailbox_model.specs.declared.row.Row.{Row}
-use Rattle.mailbox_model.specs.Lists.{Bytes, firsts, last_of}
+use Rattle.mailbox_model.specs.Lists.{Bytes, last_of}
 use Rattle.mailbox_model.specs.Mailbox.{Mailbox}
 use Rattle.mailbox_model.specs.Present.{Mail, present}
 

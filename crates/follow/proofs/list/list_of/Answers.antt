@@ -5,12 +5,13 @@ use Rattle.std.proofs.lemmas.Iterator.{items_from_collect}
 use Rattle.std.proofs.lemmas.Iterator.Adapters.{YieldsList-from_vec}
 use Rattle.std.proofs.lemmas.Iterator.Consumers.{YieldsList-end, YieldsList-from_rest, YieldsList-so_far, YieldsList-turn}
 use Rattle.std.proofs.lemmas.List.Elements.{All-map, All-same}
+use Rattle.kit.specs.Distinct.{each_once}
+use Rattle.kit.proofs.Distinct.{each_once-before}
+use Rattle.mailbox_model.specs.Lists.{sorted_by}
 use Rattle.follow.specs.declared.list.ListRow.{ListRow}
 use Rattle.follow.specs.declared.mail.Mail.{Mail}
-use Rattle.follow.specs.Lists.{each_once, list_of, list_row, row_cmp}
-use Rattle.follow.specs.Mailbox.{sorted_by}
+use Rattle.follow.specs.Lists.{list_of, list_row, row_cmp}
 use Rattle.follow.proofs.Ranks.{list_row-dated, rank_of, rows-insert}
-use Rattle.follow.proofs.Senders.{each_once-before}
 use Rattle.follow.proofs.Sorted.{All-sorted_by, keyed, values_of-keyed}
 use Rattle.follow.proofs.list.list_of.Goals as goal
 use Rattle.follow.proofs.list.list_of.Goals.{In_ok-insert}

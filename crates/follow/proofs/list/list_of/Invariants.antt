@@ -1,6 +1,6 @@
 use Rattle.std.proofs.Common.{◌≡◌, map}
 use Rattle.follow.specs.Lists.{list_row, row_cmp}
-use Rattle.follow.specs.Mailbox.{sorted_by}
+use Rattle.mailbox_model.specs.Lists.{sorted_by}
 use Rattle.follow.proofs.Ranks.{rank_of}
 use Rattle.follow.proofs.Sorted.{keyed}
 use Rattle.follow.proofs.list.list_of.Given as goal

@@ -2,9 +2,9 @@ use Rattle.std.proofs.Common.{◌≡◌, ◌<◌, ◌+◌, ◌∙◌, refl, ap, 
 use Rattle.std.specs.List.{list_any}
 use Rattle.std.specs.Str.{bytes_eq}
 use Rattle.std.proofs.lemmas.List.{map_more}
+use Rattle.kit.specs.Distinct.{each_once}
+use Rattle.kit.proofs.Distinct.{each_once-push}
 use Rattle.follow.specs.declared.mail.Mail.{Mail}
-use Rattle.follow.specs.Lists.{each_once}
-use Rattle.follow.proofs.Senders.{each_once-push}
 use Rattle.follow.proofs.list.senders.Goals as goal
 use Rattle.follow.proofs.list.senders.Goals.{then-not-contains+in_ok-copy+in_ok-push, else-not-contains}
 

@@ -1,5 +1,5 @@
 use Rattle.std.proofs.Common.{◌≡◌, take, map}
-use Rattle.follow.specs.Lists.{each_once}
+use Rattle.kit.specs.Distinct.{each_once}
 use Rattle.follow.proofs.list.senders.Given as goal
 
 abbrev pub invariant-loop-mail : goal.invariant-loop-mail

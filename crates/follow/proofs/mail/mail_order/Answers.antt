@@ -6,7 +6,8 @@ use Rattle.std.proofs.lemmas.Iterator.Consumers.{YieldsList-end, YieldsList-from
 use Rattle.std.proofs.lemmas.List.{length_push}
 use Rattle.std.proofs.lemmas.List.Elements.{All-same}
 use Rattle.follow.specs.declared.mail.Mail.{Mail}
-use Rattle.follow.specs.Mailbox.{arrivals, mail_cmp, sorted_by}
+use Rattle.mailbox_model.specs.Lists.{sorted_by}
+use Rattle.follow.specs.Mailbox.{arrivals, mail_cmp}
 use Rattle.follow.proofs.Arrivals.{arrivals-dated, arrivals-insert, spot_of}
 use Rattle.follow.proofs.Sorted.{All-sorted_by, keyed, values_of-keyed}
 use Rattle.follow.proofs.mail.mail_order.Goals as goal

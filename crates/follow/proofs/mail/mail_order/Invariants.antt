@@ -1,5 +1,6 @@
 use Rattle.std.proofs.Common.{◌≡◌, length}
-use Rattle.follow.specs.Mailbox.{arrivals, mail_cmp, sorted_by}
+use Rattle.mailbox_model.specs.Lists.{sorted_by}
+use Rattle.follow.specs.Mailbox.{arrivals, mail_cmp}
 use Rattle.follow.proofs.Arrivals.{spot_of}
 use Rattle.follow.proofs.Sorted.{keyed}
 use Rattle.follow.proofs.mail.mail_order.Given as goal

@@ -1,12 +1,13 @@
-use Rattle.std.proofs.Common.{ℕ, List, true, cond, sym, ap, ◌∙◌}
+use Rattle.std.proofs.Common.{sym, ap, ◌∙◌}
 use Rattle.std.proofs.lemmas.Bool.{not-false, not-true}
 use Rattle.std.specs.BTreeSet.{contains}
 use Rattle.std.specs.Cmp.Lexicographic.{slice_cmp}
 use Rattle.std.specs.List.{list_any}
-use Rattle.std.specs.Ordering.{is_eq, nat_cmp}
+use Rattle.std.specs.Ordering.{nat_cmp}
 use Rattle.std.specs.Str.{bytes_eq}
 use Rattle.kit.specs.Distinct.{are_distinct}
-use Rattle.follow.proofs.Distinct.{distinct_again, distinct_more, ids_more, member_more}
+use Rattle.kit.proofs.Distinct.{member_more}
+use Rattle.follow.proofs.Distinct.{distinct_again, distinct_more, ids_more}
 use Rattle.follow.proofs.plain.have_distinct_ids.Goals as goal
 
 pub returns-then-not-branch : goal.returns-then-not-branch
@@ -24,8 +25,7 @@ loop-card-preserved c =
     record {
       members = λ q.
           c.in_ok-insert.ensures.updates.0 q
-          ∙ ap (λ (key : List ℕ). cond (is_eq (slice_cmp nat_cmp key q)) true (contains (slice_cmp nat_cmp) c.loop-card.ids q)) c.in_ok-copy.ensures
-          ∙ member_more _ c.card-item.result.id q _ (c.loop-card.invariant.members q)
+          ∙ member_more _ _ c.card-item.result.id q _ c.in_ok-copy.ensures (c.loop-card.invariant.members q)
           ∙ ap (list_any (bytes_eq q)) (sym ids.0);
       distinct = ap are_distinct ids.0 ∙ distinct_more _ c.card-item.result.id c.loop-card.invariant.distinct new;
     }
