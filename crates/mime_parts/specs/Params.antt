@@ -1,6 +1,7 @@
 -- The parameters of a field.
-use Rattle.std.specs.Prelude.{ℕ, ◌==◌, if◌then◌else◌, List, [], ◌∷◌, ◌++◌, length, map, filter_map, bytes_eq, Option, Some, None, option_map}
-use Rattle.std.specs.List.{before_first, cons_option, list_any}
+use Rattle.std.specs.Prelude.{ℕ, ◌==◌, List, length, map, filter_map, Option, option_map}
+use Rattle.std.specs.List.{before_first}
+use Rattle.kit.specs.Distinct.{each_once}
 use Rattle.mime_parts.specs.declared.pair.Pair.{Pair}
 use Rattle.mime_parts.specs.declared.param.Param.{Param}
 use Rattle.mime_parts.specs.Pairs.{first_value}
@@ -10,17 +11,9 @@ use Rattle.mime_parts.specs.Sections.{param_value}
 abbrev pub base_name : List ℕ → List ℕ
 base_name name = before_first (λ b. b == 42) name
 
--- a name, unless it stood before
-abbrev pub unless_among : List (List ℕ) → List ℕ → Option (List ℕ)
-unless_among before name = if list_any (bytes_eq name) before then None else Some name
-
--- the names, each where it first stands: others stood before
-abbrev pub first_names : List (List ℕ) → List (List ℕ) → List (List ℕ)
-first_names before [] = []
-first_names before (name ∷ names) = cons_option (unless_among before name) (first_names (before ++ name ∷ []) names)
-
+-- the names of the parameters, each where it first stands
 abbrev pub names_of : List Pair → List (List ℕ)
-names_of pairs = first_names [] (map (λ pair. base_name pair.name) pairs)
+names_of pairs = each_once (map (λ pair. base_name pair.name) pairs)
 
 -- the value of the parameter of a name
 abbrev pub value_in : List Pair → List ℕ → Option (List ℕ)
