@@ -1,6 +1,6 @@
 -- The mails of lines, by the halves at their first separator.
 use Rattle.std.proofs.Common.{◌≡◌, ℕ, ◌+◌, ◌≤◌, Bool, true, false, ◌&&◌, List, [], ◌∷◌, ◌++◌, length, drop, flat_map, refl, sym, ap, ◌∙◌, append_assoc, arith, length-append, inl, inr}
-use Rattle.std.proofs.lemmas.Bool.{cases_eq, cases_Bool}
+use Rattle.std.proofs.lemmas.Bool.{and_parts, cases_eq, cases_Bool}
 use Rattle.std.specs.Prelude.{if◌then◌else◌}
 use Rattle.std.specs.List.{concat, onto_first}
 use Rattle.kit.specs.Lines.{raw_lines}
@@ -38,10 +38,6 @@ empty_unquoted (b ∷ t) e = elim (cases_eq b 62) [
   | inr ne ↦ unquoted_other b t ne
 ]
 
-right_true : (x y : Bool) → (x && y) ≡ true → y ≡ true
-right_true true y h = h
-right_true false y h = cc
-
 one_line : (empty : Bool) (l : List ℕ) → flat_map unquoted (if empty then [] else (l ∷ [])) ≡ (if empty then [] else unquoted l) ++ []
 one_line true l = refl
 one_line false l = refl
@@ -74,7 +70,7 @@ rest_of : (e : ℕ) (may : Bool) (closing : List ℕ) (ls : List (List ℕ)) →
 unfolding first_group other_groups
 rest_of e may closing [] = refl
 rest_of e may closing (l ∷ ls) = elim (cases_Bool (may && begins_from l)) [
-  | inl h ↦ (let b : begins_from l ≡ true = right_true may (begins_from l) h in let z : e + 0 ≡ e = omega arith in rw (h, b, z) refl)
+  | inl h ↦ (let parts = and_parts may (begins_from l) h in let z : e + 0 ≡ e = omega arith in rw (h, parts.1, z) refl)
   | inr h ↦ rw (h, onto l (groups (is_empty_line l) ls)) (rest_of e (is_empty_line l) (if is_empty_line l then l else []) ls)
 ]
 

@@ -1,6 +1,6 @@
 -- What each kind of byte does at each spot.
 use Rattle.std.proofs.Common.{◌≡◌, ◌≢◌, ℕ, zero, suc, ◌+◌, ◌<◌, codes, Bool, true, false, ◌&&◌, List, [], ◌∷◌, ◌++◌, length, take, subst, refl, sym, ap, ◌∙◌, append_assoc, arith}
-use Rattle.std.proofs.lemmas.Bool.{eq-eqb, ne_eqb, eqb-true, eqb-false, cond_both}
+use Rattle.std.proofs.lemmas.Bool.{and_parts, eq-eqb, ne_eqb, eqb-true, eqb-false, cond_both}
 use Rattle.std.proofs.lemmas.List.{take_all}
 use Rattle.std.specs.Prelude.{slice_index, ◌==◌, Option, Some, None}
 use Rattle.memchr.specs.Find.{IsFirstByte, Nowhere, Passes, is_byte}
@@ -157,14 +157,6 @@ pub separator_other : (b : ℕ) (ls : List (List ℕ)) → b ≢ 10 → lines_fr
 separator_other b ls ne = rw (put_glue b ls ne) refl
 
 -- The forms in which the functions meet these.
-left_true : (x y : Bool) → (x && y) ≡ true → x ≡ true
-left_true true y h = refl
-left_true false y h = h
-
-right_true : (x y : Bool) → (x && y) ≡ true → y ≡ true
-right_true true y h = h
-right_true false y h = cc
-
 from_stays : (c : Closing) (k b : ℕ) (ls : List (List ℕ)) → 0 < k → k < 5 → b ≢ slice_index from_text k
     → lines_from (From c k) (put_before b ls) ≡ push (closing_bytes c ++ (take k from_text ++ (b ∷ []))) (lines_from (after_byte b) ls)
 from_stays c k b ls low lt is =
@@ -196,8 +188,9 @@ unfolding coming
 at spot b c sent next is fine f = (fine, λ bs. ap (λ x. lines_from spot (put_before x (raw_lines bs))) is ∙ f (raw_lines bs))
 
 pub turns_may : (c : Closing) (b : ℕ) → (b == 70 && may_separate c) ≡ true → Turns (Start c) (b ∷ []) [] (Some (From c 1))
-turns_may c b h = let may = right_true (b == 70) (may_separate c) h in
-    at (Start c) b 70 [] (From c 1) (eqb-true b 70 (left_true (b == 70) (may_separate c) h)) (omega arith, omega arith, may) (λ ls. start_from c ls may)
+turns_may c b h =
+    let parts = and_parts (b == 70) (may_separate c) h in
+    at (Start c) b 70 [] (From c 1) (eqb-true b 70 parts.0) (omega arith, omega arith, parts.1) (λ ls. start_from c ls parts.1)
 
 pub turns_start_lf : (c : Closing) (b : ℕ) → b ≡ 10 → Turns (Start c) (b ∷ []) (closing_bytes c) (Some (Start Lf))
 turns_start_lf c b is = at (Start c) b 10 (closing_bytes c) (Start Lf) is tt (start_lf c)

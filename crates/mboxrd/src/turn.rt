@@ -200,9 +200,7 @@ pub fn finish(spot: Spot, mail: &mut Kept) -> Result<(), Memory>
     ensures { OnOk result ((sent : List ℕ) × Keeps mail.old mail.new sent × EndsWith spot sent) }
 {
     match spot {
-        Spot::Separator => Ok(()),
-        Spot::Start(_) => Ok(()),
-        Spot::Inside => Ok(()),
+        Spot::Separator | Spot::Start(_) | Spot::Inside => Ok(()),
         Spot::From(closing, k) => {
             mail.keep(closing_bytes(closing))?;
             mail.keep(&FROM[..k])?;

@@ -1,4 +1,4 @@
-use Rattle.std.proofs.Common.{[], ◌∷◌, ◌++◌, take}
+use Rattle.std.proofs.Common.{[], ◌∷◌, ◌++◌, take, inl, inr}
 use Rattle.mboxrd.specs.Halves.{from_text}
 use Rattle.mboxrd.specs.Coming.{closing_bytes}
 use Rattle.mboxrd.proofs.Fronts.{Keeps_more, Keeps_none, Keeps_as}
@@ -6,13 +6,15 @@ use Rattle.mboxrd.proofs.Turning.{from_end, quote_end, separator_end, start_end,
 use Rattle.mboxrd.proofs.turn.finish.Goals as goal
 
 pub returns-in-Separator : goal.returns-in-Separator
-returns-in-Separator c = ([], Keeps_none c.args.mail.now, rw c.in-Separator.is separator_end)
-
-pub returns-in-Start : goal.returns-in-Start
-returns-in-Start c = ([], Keeps_none c.args.mail.now, rw c.in-Start.is (start_end c.in-Start.field-0))
-
-pub returns-in-Inside : goal.returns-in-Inside
-returns-in-Inside c = ([], Keeps_none c.args.mail.now, rw c.in-Inside.is inside_end)
+returns-in-Separator c = (
+  [],
+  Keeps_none c.args.mail.now,
+  elim c.in-Separator.is [
+    | inl is ↦ rw is separator_end
+    | inr (inl start) ↦ rw start.1 (start_end start.0)
+    | inr (inr is) ↦ rw is inside_end
+  ],
+)
 
 pub returns-in_ok-keep-in-From-2 : goal.returns-in_ok-keep-in-From-2
 returns-in_ok-keep-in-From-2 c =
