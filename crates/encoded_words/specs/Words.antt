@@ -48,7 +48,7 @@ spaced b = if b == 95 then 32 else b
 
 -- the bytes that the text of a word stands for (RFC 2047, section 4)
 abbrev pub coded_bytes : Coding → List ℕ → List ℕ
-coded_bytes Q text = unescaped 61 (map spaced text)
+coded_bytes Q text = unescaped (map spaced text)
 coded_bytes B text = decode_base64 text
 
 -- what a word says

@@ -86,7 +86,7 @@ fn coded_bytes(alloc: Global, coding: Coding, text: &[u8]) -> Result<Vec<u8>, Me
     ensures { IfOk result (λ out. out.items ≡ coded_bytes coding text.now) }
 {
     match coding {
-        Coding::Q => unescaped(alloc, b'=', &with_spaces(alloc, text)?),
+        Coding::Q => unescaped(alloc, &with_spaces(alloc, text)?),
         Coding::B => decode_body(alloc, Encoding::Base64, text),
     }
 }

@@ -6,49 +6,49 @@ use Rattle.std.specs.Prelude.{option_and_then, option_map}
 use Rattle.transfer_code.specs.Escapes.{Unescapes, at_end, escape, stands, digit_of, escape_in, unescaped, unescaped_behind}
 
 -- what an escape takes is passed over
-passed : (sign k : ℕ) (bs : List ℕ) → unescaped_behind sign k bs ≡ unescaped sign (drop k bs)
-passed sign zero bs = refl
-passed sign (suc k) [] = refl
-passed sign (suc k) (b ∷ bs) = passed sign k bs
+passed : (k : ℕ) (bs : List ℕ) → unescaped_behind k bs ≡ unescaped (drop k bs)
+passed zero bs = refl
+passed (suc k) [] = refl
+passed (suc k) (b ∷ bs) = passed k bs
 
-pub at_escape : (sign v : ℕ) (bs : List ℕ) → escape_in sign bs ≡ Some v → unescaped sign bs ≡ v ∷ unescaped sign (drop 3 bs)
-at_escape sign v [] e = absurd cc
-at_escape sign v (b ∷ bs) e = rw e (ap (λ (t : List ℕ). v ∷ t) (passed sign 2 bs))
+pub at_escape : (v : ℕ) (bs : List ℕ) → escape_in bs ≡ Some v → unescaped bs ≡ v ∷ unescaped (drop 3 bs)
+at_escape v [] e = absurd cc
+at_escape v (b ∷ bs) e = rw e (ap (λ (t : List ℕ). v ∷ t) (passed 2 bs))
 
-pub at_other : (sign b : ℕ) (bs : List ℕ) → escape_in sign (b ∷ bs) ≡ None → unescaped sign (b ∷ bs) ≡ b ∷ unescaped sign bs
-at_other sign b bs e = rw e refl
+pub at_other : (b : ℕ) (bs : List ℕ) → escape_in (b ∷ bs) ≡ None → unescaped (b ∷ bs) ≡ b ∷ unescaped bs
+at_other b bs e = rw e refl
 
 -- ---- a loop over the bytes
 
-pub after_escape : (sign i v : ℕ) (out bytes all : List ℕ) → escape_in sign (drop i bytes) ≡ Some v
-    → out ++ unescaped sign (drop i bytes) ≡ all → (out ++ v ∷ []) ++ unescaped sign (drop (i + 3) bytes) ≡ all
-after_escape sign i v out bytes all e so_far =
-    let step : v ∷ unescaped sign (drop (i + 3) bytes) ≡ unescaped sign (drop i bytes) =
-    ap (λ (t : List ℕ). v ∷ unescaped sign t) (sym (drop-drop 3 i bytes)) ∙ sym (at_escape sign v (drop i bytes) e) in
+pub after_escape : (i v : ℕ) (out bytes all : List ℕ) → escape_in (drop i bytes) ≡ Some v
+    → out ++ unescaped (drop i bytes) ≡ all → (out ++ v ∷ []) ++ unescaped (drop (i + 3) bytes) ≡ all
+after_escape i v out bytes all e so_far =
+    let step : v ∷ unescaped (drop (i + 3) bytes) ≡ unescaped (drop i bytes) =
+    ap (λ (t : List ℕ). v ∷ unescaped t) (sym (drop-drop 3 i bytes)) ∙ sym (at_escape v (drop i bytes) e) in
     append_assoc out (v ∷ []) _ ∙ ap (λ (t : List ℕ). out ++ t) step ∙ so_far
 
-pub after_other : (sign i : ℕ) (out bytes all : List ℕ) → i < length bytes → escape_in sign (drop i bytes) ≡ None
-    → out ++ unescaped sign (drop i bytes) ≡ all → (out ++ get_or bytes i 0 ∷ []) ++ unescaped sign (drop (i + 1) bytes) ≡ all
-after_other sign i out bytes all lt e so_far =
+pub after_other : (i : ℕ) (out bytes all : List ℕ) → i < length bytes → escape_in (drop i bytes) ≡ None
+    → out ++ unescaped (drop i bytes) ≡ all → (out ++ get_or bytes i 0 ∷ []) ++ unescaped (drop (i + 1) bytes) ≡ all
+after_other i out bytes all lt e so_far =
     let more = drop_more bytes i 0 lt in
-    let step : unescaped sign (drop i bytes) ≡ get_or bytes i 0 ∷ unescaped sign (drop (i + 1) bytes) =
-    ap (unescaped sign) more ∙ at_other sign (get_or bytes i 0) (drop (i + 1) bytes) (ap (escape_in sign) (sym more) ∙ e) in
+    let step : unescaped (drop i bytes) ≡ get_or bytes i 0 ∷ unescaped (drop (i + 1) bytes) =
+    ap unescaped more ∙ at_other (get_or bytes i 0) (drop (i + 1) bytes) (ap escape_in (sym more) ∙ e) in
     append_assoc out (get_or bytes i 0 ∷ []) _ ∙ ap (λ (t : List ℕ). out ++ t) (sym step) ∙ so_far
 
 -- ---- the relation
 
-pub of_digits : (sign high low h l : ℕ) (bs : List ℕ) → digit_of high ≡ Some h → digit_of low ≡ Some l
-    → escape_in sign (sign ∷ high ∷ low ∷ bs) ≡ Some (16 * h + l)
-of_digits sign high low h l bs e f = rw (eq-eqb sign sign refl, e, f) refl
+pub of_digits : (high low h l : ℕ) (bs : List ℕ) → digit_of high ≡ Some h → digit_of low ≡ Some l
+    → escape_in (61 ∷ high ∷ low ∷ bs) ≡ Some (16 * h + l)
+of_digits high low h l bs e f = rw (e, f) refl
 
 -- bytes stand for no others than the function gives
-pub stands_alone : (sign : ℕ) (bytes out : List ℕ) → Unescapes sign bytes out → out ≡ unescaped sign bytes
-stands_alone sign _ _ at_end = refl
-stands_alone sign _ _ (escape high low h l bs out e f rest) =
-    ap (λ (t : List ℕ). (16 * h + l) ∷ t) (stands_alone sign bs out rest)
-    ∙ sym (at_escape sign _ (sign ∷ high ∷ low ∷ bs) (of_digits sign high low h l bs e f))
-stands_alone sign _ _ (stands b bs out e rest) =
-    ap (λ (t : List ℕ). b ∷ t) (stands_alone sign bs out rest) ∙ sym (at_other sign b bs e)
+pub stands_alone : (bytes out : List ℕ) → Unescapes bytes out → out ≡ unescaped bytes
+stands_alone _ _ at_end = refl
+stands_alone _ _ (escape high low h l bs out e f rest) =
+    ap (λ (t : List ℕ). (16 * h + l) ∷ t) (stands_alone bs out rest)
+    ∙ sym (at_escape _ (61 ∷ high ∷ low ∷ bs) (of_digits high low h l bs e f))
+stands_alone _ _ (stands b bs out e rest) =
+    ap (λ (t : List ℕ). b ∷ t) (stands_alone bs out rest) ∙ sym (at_other b bs e)
 
 pub digits_of : (v : ℕ) (x y : Option ℕ) → option_and_then (λ h. option_map (λ l. 16 * h + l) y) x ≡ Some v
     → (h : ℕ) × (l : ℕ) × (x ≡ Some h) × (y ≡ Some l) × (16 * h + l ≡ v)
@@ -56,28 +56,28 @@ digits_of v None y is = absurd cc
 digits_of v (Some h) None is = absurd cc
 digits_of v (Some h) (Some l) is = (h, l, refl, refl, cc)
 
-some_escape : (sign b v : ℕ) (bs out : List ℕ) → escape_in sign (b ∷ bs) ≡ Some v → Unescapes sign (drop 2 bs) out
-    → Unescapes sign (b ∷ bs) (v ∷ out)
-some_escape sign b v [] out e rest = absurd cc
-some_escape sign b v (high ∷ []) out e rest = absurd cc
-some_escape sign b v (high ∷ low ∷ bs) out e rest = elim (cases_eq b sign) [
+some_escape : (b v : ℕ) (bs out : List ℕ) → escape_in (b ∷ bs) ≡ Some v → Unescapes (drop 2 bs) out
+    → Unescapes (b ∷ bs) (v ∷ out)
+some_escape b v [] out e rest = absurd cc
+some_escape b v (high ∷ []) out e rest = absurd cc
+some_escape b v (high ∷ low ∷ bs) out e rest = elim (cases_eq b 61) [
   | inl is ↦ (
-      let d = digits_of v (digit_of high) (digit_of low) (rw (eq-eqb b sign is) at e) in
+      let d = digits_of v (digit_of high) (digit_of low) (rw (eq-eqb b 61 is) at e) in
       rw (is, ← d.4) (escape high low d.0 d.1 bs out d.2 d.3 rest))
-  | inr other ↦ (let none : None ≡ Some v = rw (ne_eqb b sign other) at e in absurd cc)
+  | inr other ↦ (let none : None ≡ Some v = rw (ne_eqb b 61 other) at e in absurd cc)
 ]
 
-stands_behind : (sign k : ℕ) (bs : List ℕ) → Unescapes sign (drop k bs) (unescaped_behind sign k bs)
-stands_behind sign zero [] = at_end
-stands_behind sign (suc k) [] = at_end
-stands_behind sign (suc k) (b ∷ bs) = stands_behind sign k bs
-stands_behind sign zero (b ∷ bs) = go (escape_in sign (b ∷ bs)) refl (stands_behind sign 0 bs) (stands_behind sign 2 bs)
+stands_behind : (k : ℕ) (bs : List ℕ) → Unescapes (drop k bs) (unescaped_behind k bs)
+stands_behind zero [] = at_end
+stands_behind (suc k) [] = at_end
+stands_behind (suc k) (b ∷ bs) = stands_behind k bs
+stands_behind zero (b ∷ bs) = go (escape_in (b ∷ bs)) refl (stands_behind 0 bs) (stands_behind 2 bs)
   where
-    go : (e : Option ℕ) → escape_in sign (b ∷ bs) ≡ e → Unescapes sign bs (unescaped_behind sign 0 bs)
-        → Unescapes sign (drop 2 bs) (unescaped_behind sign 2 bs) → Unescapes sign (b ∷ bs) (unescaped sign (b ∷ bs))
+    go : (e : Option ℕ) → escape_in (b ∷ bs) ≡ e → Unescapes bs (unescaped_behind 0 bs)
+        → Unescapes (drop 2 bs) (unescaped_behind 2 bs) → Unescapes (b ∷ bs) (unescaped (b ∷ bs))
     go None e next past = rw e (stands b bs _ e next)
-    go (Some v) e next past = rw e (some_escape sign b v bs _ e past)
+    go (Some v) e next past = rw e (some_escape b v bs _ e past)
 
 -- bytes stand for what the function gives
-pub stands_for : (sign : ℕ) (bytes : List ℕ) → Unescapes sign bytes (unescaped sign bytes)
-stands_for sign bytes = stands_behind sign 0 bytes
+pub stands_for : (bytes : List ℕ) → Unescapes bytes (unescaped bytes)
+stands_for bytes = stands_behind 0 bytes

@@ -1,26 +1,26 @@
 -- What a line stands for, as a relation between what is left of it and its text.
 use Rattle.std.proofs.Common.{◌≡◌, ℕ, zero, suc, ◌+◌, ◌*◌, ◌-◌, Bool, true, false, eqb, cond, List, [], ◌∷◌, ◌++◌, length, get_or, take, drop, codes, Option, Some, None, refl, sym, ap, subst, ◌∙◌, arith, inl, inr}
 use Rattle.std.specs.Prelude.{◌&&◌, ◌==◌, nat_eq, if◌then◌else◌, reverse, flat_map}
-use Rattle.std.specs.List.{ends_with, list_all, prefix_len, suffix_len}
+use Rattle.std.specs.List.{ends_with, prefix_len, suffix_len}
 use Rattle.std.proofs.lemmas.Bool.{and_parts, cases_eq, eq-eqb, ne_eqb, eqb-true}
 use Rattle.std.proofs.lemmas.List.{length-reverse, get_or-reverse}
 use Rattle.std.proofs.lemmas.Grind.{reverse_onto}
 use Rattle.std.proofs.lemmas.List.Folds.{prefix_len-append}
 use Rattle.std.proofs.lemmas.List.Sums.{prefix_len_passes, suffix_len_is, suffix_len-le-length, AllPass-from_list_all, list_all-from_AllPass}
 use Rattle.kit.specs.Lines.{content}
-use Rattle.kit.specs.White.{is_white, trim_end}
+use Rattle.kit.specs.White.{is_blank, is_white, trim_end}
 use Rattle.transfer_code.specs.Escapes.{digit_of, escape_in}
 use Rattle.transfer_code.specs.Quoted.{is_broken, LinesText, no_line, a_line, LineText, line_end, soft_break, an_escape, a_byte, trimmed_text, line_text}
 use Rattle.transfer_code.proofs.EscapeLemmas.{at_escape, at_other, of_digits, digits_of}
 
 -- ---- white space at the end
 
-suffix_len-white : (xs : List ℕ) → list_all is_white xs ≡ true → suffix_len is_white xs ≡ length xs
+suffix_len-white : (xs : List ℕ) → is_blank xs ≡ true → suffix_len is_white xs ≡ length xs
 suffix_len-white xs white =
     let whole : length xs - 0 ≡ length xs = omega arith in
     suffix_len_is is_white xs 0 0 (omega arith) (λ k _ lt. AllPass-from_list_all is_white xs white k 0 lt) (λ lt. absurd (omega arith)) ∙ whole
 
-white_from_suffix : (xs : List ℕ) → suffix_len is_white xs ≡ length xs → list_all is_white xs ≡ true
+white_from_suffix : (xs : List ℕ) → suffix_len is_white xs ≡ length xs → is_blank xs ≡ true
 white_from_suffix xs all = list_all-from_AllPass is_white xs (λ k d lt.
     let back : length xs - 1 - (length xs - 1 - k) ≡ k = omega arith in
     let at : get_or (reverse xs) (length xs - 1 - k) d ≡ get_or xs k d =
@@ -34,27 +34,27 @@ first_other false e = e
 not_both : (v : Bool) → v ≡ false → v ≡ true → ⊥
 not_both v e f = cc
 
-trim_end-white : (xs : List ℕ) → list_all is_white xs ≡ true → trim_end xs ≡ []
+trim_end-white : (xs : List ℕ) → is_blank xs ≡ true → trim_end xs ≡ []
 trim_end-white xs white =
     let all = suffix_len-white xs white in
     let none : length xs - suffix_len is_white xs ≡ 0 = omega arith in
     ap (λ n. take n xs) none
 
-suffix_len-cons : (x : ℕ) (xs : List ℕ) → list_all is_white (x ∷ xs) ≡ false → suffix_len is_white (x ∷ xs) ≡ suffix_len is_white xs
-suffix_len-cons x xs other = go (list_all is_white xs) refl
+suffix_len-cons : (x : ℕ) (xs : List ℕ) → is_blank (x ∷ xs) ≡ false → suffix_len is_white (x ∷ xs) ≡ suffix_len is_white xs
+suffix_len-cons x xs other = go (is_blank xs) refl
   where
     e : suffix_len is_white (x ∷ xs) ≡ cond (eqb (suffix_len is_white xs) (length (reverse xs))) (length (reverse xs) + prefix_len is_white (x ∷ [])) (suffix_len is_white xs)
     e = ap (prefix_len is_white) (reverse_onto xs x []) ∙ prefix_len-append is_white (reverse xs) (x ∷ [])
 
-    go : (v : Bool) → list_all is_white xs ≡ v → suffix_len is_white (x ∷ xs) ≡ suffix_len is_white xs
+    go : (v : Bool) → is_blank xs ≡ v → suffix_len is_white (x ∷ xs) ≡ suffix_len is_white xs
     go true white =
         let x_other : is_white x ≡ false = first_other (is_white x) (rw white at other) in
         let s = suffix_len-white xs white in
         let n : length (reverse xs) ≡ length xs = length-reverse xs in
         e ∙ rw (n, s, eq-eqb (length xs) (length xs) refl, x_other) (omega arith)
-    go false white = e ∙ rw (ne_eqb (suffix_len is_white xs) (length (reverse xs)) (λ same. not_both (list_all is_white xs) white (white_from_suffix xs (same ∙ length-reverse xs)))) refl
+    go false white = e ∙ rw (ne_eqb (suffix_len is_white xs) (length (reverse xs)) (λ same. not_both (is_blank xs) white (white_from_suffix xs (same ∙ length-reverse xs)))) refl
 
-trim_end-cons : (x : ℕ) (xs : List ℕ) → list_all is_white (x ∷ xs) ≡ false → trim_end (x ∷ xs) ≡ x ∷ trim_end xs
+trim_end-cons : (x : ℕ) (xs : List ℕ) → is_blank (x ∷ xs) ≡ false → trim_end (x ∷ xs) ≡ x ∷ trim_end xs
 trim_end-cons x xs other =
     let same = suffix_len-cons x xs other in
     let le = suffix_len-le-length is_white xs in
@@ -68,7 +68,7 @@ ends_with-cons b x xs =
     let n : suc (suc (length xs)) - 1 ≡ suc (suc (length xs) - 1) = omega arith in
     rw n refl
 
-escape_in-take : (n : ℕ) (bs : List ℕ) → escape_in 61 bs ≡ None → escape_in 61 (take n bs) ≡ None
+escape_in-take : (n : ℕ) (bs : List ℕ) → escape_in bs ≡ None → escape_in (take n bs) ≡ None
 escape_in-take zero bs none = refl
 escape_in-take (suc n) [] none = refl
 escape_in-take (suc zero) (b ∷ bs) none = refl
@@ -77,7 +77,7 @@ escape_in-take (suc (suc zero)) (b ∷ c ∷ bs) none = refl
 escape_in-take (suc (suc (suc n))) (b ∷ c ∷ []) none = refl
 escape_in-take (suc (suc (suc n))) (b ∷ c ∷ d ∷ bs) none = none
 
-trimmed_text-byte : (broken : Bool) (b x : ℕ) (xs : List ℕ) → escape_in 61 (b ∷ x ∷ xs) ≡ None
+trimmed_text-byte : (broken : Bool) (b x : ℕ) (xs : List ℕ) → escape_in (b ∷ x ∷ xs) ≡ None
     → trimmed_text (b ∷ x ∷ xs) broken ≡ b ∷ trimmed_text (x ∷ xs) broken
 trimmed_text-byte broken b x xs none = go (ends_with nat_eq (x ∷ xs) (codes "=")) refl
   where
@@ -85,18 +85,18 @@ trimmed_text-byte broken b x xs none = go (ends_with nat_eq (x ∷ xs) (codes "=
     go true e =
         let n : suc (suc (length xs)) - 1 ≡ suc (length xs) = omega arith in
         let m : suc (length xs) - 1 ≡ length xs = omega arith in
-        rw (ends_with-cons b x xs, e, n, m) (at_other 61 b (take (length xs) (x ∷ xs)) (escape_in-take (suc (length xs)) (b ∷ x ∷ xs) none))
-    go false e = rw (ends_with-cons b x xs, e) (ap (λ t. t ++ (if broken then 10 ∷ [] else [])) (at_other 61 b (x ∷ xs) none))
+        rw (ends_with-cons b x xs, e, n, m) (at_other b (take (length xs) (x ∷ xs)) (escape_in-take (suc (length xs)) (b ∷ x ∷ xs) none))
+    go false e = rw (ends_with-cons b x xs, e) (ap (λ t. t ++ (if broken then 10 ∷ [] else [])) (at_other b (x ∷ xs) none))
 
 -- ---- the four cases
 
 abbrev break : Bool → List ℕ
 break broken = if broken then 10 ∷ [] else []
 
-at_line_end : (broken : Bool) (rest : List ℕ) → list_all is_white rest ≡ true → line_text rest broken ≡ break broken
+at_line_end : (broken : Bool) (rest : List ℕ) → is_blank rest ≡ true → line_text rest broken ≡ break broken
 at_line_end broken rest white = ap (λ t. trimmed_text t broken) (trim_end-white rest white)
 
-at_soft_break : (broken : Bool) (rest : List ℕ) → list_all is_white rest ≡ true → line_text (61 ∷ rest) broken ≡ []
+at_soft_break : (broken : Bool) (rest : List ℕ) → is_blank rest ≡ true → line_text (61 ∷ rest) broken ≡ []
 at_soft_break broken rest white =
     ap (λ t. trimmed_text t broken) (trim_end-cons 61 rest refl ∙ ap (λ t. 61 ∷ t) (trim_end-white rest white))
 
@@ -106,12 +106,12 @@ last_byte broken b other = elim (cases_eq b 61) [
   | inr ne ↦ rw (ne_eqb 61 b (λ e. ne (sym e))) refl
 ]
 
-at_byte : (broken : Bool) (b : ℕ) (rest : List ℕ) → list_all is_white (b ∷ rest) ≡ false → (b == 61 && list_all is_white rest) ≡ false
-    → escape_in 61 (b ∷ rest) ≡ None → line_text (b ∷ rest) broken ≡ b ∷ line_text rest broken
+at_byte : (broken : Bool) (b : ℕ) (rest : List ℕ) → is_blank (b ∷ rest) ≡ false → (b == 61 && is_blank rest) ≡ false
+    → escape_in (b ∷ rest) ≡ None → line_text (b ∷ rest) broken ≡ b ∷ line_text rest broken
 at_byte broken b [] other hard none = ap (λ t. trimmed_text t broken) (trim_end-cons b [] other) ∙ last_byte broken b hard
-at_byte broken b (r ∷ rs) other hard none = go (list_all is_white (r ∷ rs)) refl
+at_byte broken b (r ∷ rs) other hard none = go (is_blank (r ∷ rs)) refl
   where
-    go : (v : Bool) → list_all is_white (r ∷ rs) ≡ v → line_text (b ∷ r ∷ rs) broken ≡ b ∷ line_text (r ∷ rs) broken
+    go : (v : Bool) → is_blank (r ∷ rs) ≡ v → line_text (b ∷ r ∷ rs) broken ≡ b ∷ line_text (r ∷ rs) broken
     go true white =
         ap (λ t. trimmed_text t broken) (trim_end-cons b (r ∷ rs) other ∙ ap (λ t. b ∷ t) (trim_end-white (r ∷ rs) white))
         ∙ last_byte broken b (rw white at hard)
@@ -135,10 +135,10 @@ digit_alone b v e = elim (cases_eq b 32) [
   ]
 ]
 
-trimmed_text-escape : (broken : Bool) (high low v : ℕ) (t : List ℕ) → eqb 61 low ≡ false → ((bs : List ℕ) → escape_in 61 (61 ∷ high ∷ low ∷ bs) ≡ Some v)
+trimmed_text-escape : (broken : Bool) (high low v : ℕ) (t : List ℕ) → eqb 61 low ≡ false → ((bs : List ℕ) → escape_in (61 ∷ high ∷ low ∷ bs) ≡ Some v)
     → trimmed_text (61 ∷ high ∷ low ∷ t) broken ≡ v ∷ trimmed_text t broken
 trimmed_text-escape broken high low v [] other e =
-    rw other (ap (λ t. t ++ break broken) (at_escape 61 v (61 ∷ high ∷ low ∷ []) (e [])))
+    rw other (ap (λ t. t ++ break broken) (at_escape v (61 ∷ high ∷ low ∷ []) (e [])))
 trimmed_text-escape broken high low v (x ∷ xs) other e = go (ends_with nat_eq (x ∷ xs) (codes "=")) refl
   where
     last : ends_with nat_eq (61 ∷ high ∷ low ∷ x ∷ xs) (codes "=") ≡ ends_with nat_eq (x ∷ xs) (codes "=")
@@ -148,8 +148,8 @@ trimmed_text-escape broken high low v (x ∷ xs) other e = go (ends_with nat_eq 
     go true is =
         let n : suc (suc (suc (suc (length xs)))) - 1 ≡ suc (suc (suc (length xs))) = omega arith in
         let m : suc (length xs) - 1 ≡ length xs = omega arith in
-        rw (last, is, n, m) (at_escape 61 v (61 ∷ high ∷ low ∷ take (length xs) (x ∷ xs)) (e (take (length xs) (x ∷ xs))))
-    go false is = rw (last, is) (ap (λ t. t ++ break broken) (at_escape 61 v (61 ∷ high ∷ low ∷ x ∷ xs) (e (x ∷ xs))))
+        rw (last, is, n, m) (at_escape v (61 ∷ high ∷ low ∷ take (length xs) (x ∷ xs)) (e (take (length xs) (x ∷ xs))))
+    go false is = rw (last, is) (ap (λ t. t ++ break broken) (at_escape v (61 ∷ high ∷ low ∷ x ∷ xs) (e (x ∷ xs))))
 
 at_digits : (broken : Bool) (high low h l : ℕ) (rest : List ℕ) → digit_of high ≡ Some h → digit_of low ≡ Some l
     → line_text (61 ∷ high ∷ low ∷ rest) broken ≡ (16 * h + l) ∷ line_text rest broken
@@ -159,7 +159,7 @@ at_digits broken high low h l rest e f =
     let tail : trim_end (low ∷ rest) ≡ low ∷ trim_end rest = trim_end-cons low rest (rw two.0 refl) in
     let back : trim_end (high ∷ low ∷ rest) ≡ high ∷ low ∷ trim_end rest = trim_end-cons high (low ∷ rest) (rw one.0 refl) ∙ ap (λ t. high ∷ t) tail in
     ap (λ t. trimmed_text t broken) (trim_end-cons 61 (high ∷ low ∷ rest) refl ∙ ap (λ t. 61 ∷ t) back)
-    ∙ trimmed_text-escape broken high low (16 * h + l) (trim_end rest) two.1 (λ bs. of_digits 61 high low h l bs e f)
+    ∙ trimmed_text-escape broken high low (16 * h + l) (trim_end rest) two.1 (λ bs. of_digits high low h l bs e f)
 
 -- ---- the relation
 
@@ -172,7 +172,7 @@ line_text_alone broken _ _ (an_escape high low h l rest out e f more) =
 line_text_alone broken _ _ (a_byte b rest out other hard none more) =
     ap (λ t. b ∷ t) (line_text_alone broken rest out more) ∙ sym (at_byte broken b rest other hard none)
 
-of_escape : (broken : Bool) (c v : ℕ) (cs : List ℕ) → escape_in 61 (c ∷ cs) ≡ Some v → LineText broken (drop 2 cs) (line_text (drop 2 cs) broken)
+of_escape : (broken : Bool) (c v : ℕ) (cs : List ℕ) → escape_in (c ∷ cs) ≡ Some v → LineText broken (drop 2 cs) (line_text (drop 2 cs) broken)
     → LineText broken (c ∷ cs) (line_text (c ∷ cs) broken)
 of_escape broken c v [] e more = absurd cc
 of_escape broken c v (high ∷ []) e more = absurd cc
@@ -185,9 +185,9 @@ of_escape broken c v (high ∷ low ∷ rest) e more = elim (cases_eq c 61) [
   | inr other ↦ (let none : None ≡ Some v = rw (ne_eqb c 61 other) at e in absurd cc)
 ]
 
-of_soft_break : (broken : Bool) (c : ℕ) (cs : List ℕ) → (c == 61 && list_all is_white cs) ≡ true → LineText broken (c ∷ cs) (line_text (c ∷ cs) broken)
+of_soft_break : (broken : Bool) (c : ℕ) (cs : List ℕ) → (c == 61 && is_blank cs) ≡ true → LineText broken (c ∷ cs) (line_text (c ∷ cs) broken)
 of_soft_break broken c cs soft =
-    let b = and_parts (c == 61) (list_all is_white cs) soft in
+    let b = and_parts (c == 61) (is_blank cs) soft in
     subst (λ a. LineText broken (a ∷ cs) (line_text (a ∷ cs) broken)) (sym (eqb-true c 61 b.0))
     (subst (λ t. LineText broken (61 ∷ cs) t) (sym (at_soft_break broken cs b.1)) (soft_break cs b.1))
 
@@ -196,10 +196,10 @@ of_line broken zero [] = line_end [] refl
 of_line broken (suc k) [] = line_end [] refl
 of_line broken (suc k) (c ∷ cs) = of_line broken k cs
 of_line broken zero (c ∷ cs) =
-    go (list_all is_white (c ∷ cs)) refl (c == 61 && list_all is_white cs) refl (escape_in 61 (c ∷ cs)) refl (of_line broken 0 cs) (of_line broken 2 cs)
+    go (is_blank (c ∷ cs)) refl (c == 61 && is_blank cs) refl (escape_in (c ∷ cs)) refl (of_line broken 0 cs) (of_line broken 2 cs)
   where
-    go : (white : Bool) → list_all is_white (c ∷ cs) ≡ white → (soft : Bool) → (c == 61 && list_all is_white cs) ≡ soft
-        → (byte : Option ℕ) → escape_in 61 (c ∷ cs) ≡ byte → LineText broken cs (line_text cs broken)
+    go : (white : Bool) → is_blank (c ∷ cs) ≡ white → (soft : Bool) → (c == 61 && is_blank cs) ≡ soft
+        → (byte : Option ℕ) → escape_in (c ∷ cs) ≡ byte → LineText broken cs (line_text cs broken)
         → LineText broken (drop 2 cs) (line_text (drop 2 cs) broken) → LineText broken (c ∷ cs) (line_text (c ∷ cs) broken)
     go true w soft s byte e next past = subst (λ t. LineText broken (c ∷ cs) t) (sym (at_line_end broken (c ∷ cs) w)) (line_end (c ∷ cs) w)
     go false w true s byte e next past = of_soft_break broken c cs s

@@ -77,15 +77,14 @@ quoted_half_escape = refl
 quoted_lone_cr : decode_quoted (codes "a\rb\r\r\n") ≡ codes "a\rb\r\n"
 quoted_lone_cr = refl
 
-escape_large : escape_in 61 (codes "=fF") ≡ Some 255
+escape_large : escape_in (codes "=fF") ≡ Some 255
 escape_large = refl
 
-escape_none : escape_in 61 (codes "=f") ≡ None
+escape_none : escape_in (codes "=f") ≡ None
 escape_none = refl
 
--- the sign of an escape is told: `%` in a parameter
-escaped_percent : unescaped 37 (codes "na%C3%AFve=41%") ≡ codes "na" ++ (195 ∷ 175 ∷ codes "ve=41%")
-escaped_percent = refl
+escaped_word : unescaped (codes "na=C3=AFve%41=") ≡ codes "na" ++ (195 ∷ 175 ∷ codes "ve%41=")
+escaped_word = refl
 
 -- ---- base64
 

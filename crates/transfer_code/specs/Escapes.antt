@@ -1,5 +1,5 @@
--- An escape is a sign and two hexadecimal digits, and stands for a byte: the sign is `=` in quoted-printable
--- (RFC 2045, section 6.7) and in an encoded word (RFC 2047, section 4.2), and `%` in a parameter (RFC 2231, section 4).
+-- An escape is `=` (61) and two hexadecimal digits, and stands for a byte, in quoted-printable (RFC 2045, section 6.7)
+-- and in an encoded word (RFC 2047, section 4.2).
 use Rattle.std.specs.Prelude.{◌≡◌, ℕ, zero, suc, ◌+◌, ◌*◌, ◌-◌, ◌&&◌, nat_le, ◌==◌, if◌then◌else◌, List, [], ◌∷◌, Option, Some, None, option_and_then, option_map, unwrap_or, is_some}
 
 -- the value of a hexadecimal digit of either case
@@ -11,28 +11,28 @@ digit_of b =
     else None
 
 -- the byte of the escape that these bytes begin with
-abbrev pub escape_in : ℕ → List ℕ → Option ℕ
-escape_in sign (b ∷ high ∷ low ∷ bs) =
-    if b == sign then option_and_then (λ h. option_map (λ l. 16 * h + l) (digit_of low)) (digit_of high) else None
-escape_in sign _ = None
+abbrev pub escape_in : List ℕ → Option ℕ
+escape_in (b ∷ high ∷ low ∷ bs) =
+    if b == 61 then option_and_then (λ h. option_map (λ l. 16 * h + l) (digit_of low)) (digit_of high) else None
+escape_in _ = None
 
 -- Bytes on the left, and what they stand for on the right, by cases on the bytes that are left: an escape is
--- its byte, and any other byte, a sign too, stands for itself.
-pub data Unescapes (sign : ℕ) : List ℕ → List ℕ → Type 0 where
-  at_end : Unescapes sign [] []
+-- its byte, and any other byte, a `=` too, stands for itself.
+pub data Unescapes : List ℕ → List ℕ → Type 0 where
+  at_end : Unescapes [] []
   escape : (high low h l : ℕ) (bs out : List ℕ) → digit_of high ≡ Some h → digit_of low ≡ Some l
-      → Unescapes sign bs out → Unescapes sign (sign ∷ high ∷ low ∷ bs) ((16 * h + l) ∷ out)
-  stands : (b : ℕ) (bs out : List ℕ) → escape_in sign (b ∷ bs) ≡ None
-      → Unescapes sign bs out → Unescapes sign (b ∷ bs) (b ∷ out)
+      → Unescapes bs out → Unescapes (61 ∷ high ∷ low ∷ bs) ((16 * h + l) ∷ out)
+  stands : (b : ℕ) (bs out : List ℕ) → escape_in (b ∷ bs) ≡ None
+      → Unescapes bs out → Unescapes (b ∷ bs) (b ∷ out)
 
 -- The same as a function. The number says how many bytes the escape before takes still.
-abbrev pub unescaped_behind : ℕ → ℕ → List ℕ → List ℕ
-unescaped_behind sign taken [] = []
-unescaped_behind sign (suc k) (b ∷ bs) = unescaped_behind sign k bs
-unescaped_behind sign zero (b ∷ bs) =
-    let byte = escape_in sign (b ∷ bs) in
-    unwrap_or byte b ∷ unescaped_behind sign (if is_some byte then 2 else 0) bs
+abbrev pub unescaped_behind : ℕ → List ℕ → List ℕ
+unescaped_behind taken [] = []
+unescaped_behind (suc k) (b ∷ bs) = unescaped_behind k bs
+unescaped_behind zero (b ∷ bs) =
+    let byte = escape_in (b ∷ bs) in
+    unwrap_or byte b ∷ unescaped_behind (if is_some byte then 2 else 0) bs
 
 -- the bytes, each escape as its byte
-abbrev pub unescaped : ℕ → List ℕ → List ℕ
-unescaped sign bytes = unescaped_behind sign 0 bytes
+abbrev pub unescaped : List ℕ → List ℕ
+unescaped bytes = unescaped_behind 0 bytes

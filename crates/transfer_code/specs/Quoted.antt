@@ -1,8 +1,8 @@
 -- Quoted-printable, line by line (RFC 2045, section 6.7).
 use Rattle.std.specs.Prelude.{◌≡◌, ℕ, ◌+◌, ◌*◌, ◌-◌, Bool, true, false, ◌&&◌, ◌==◌, nat_eq, nat_lt, if◌then◌else◌, List, [], ◌∷◌, ◌++◌, length, take, codes, flat_map, Some, None}
-use Rattle.std.specs.List.{ends_with, list_all}
+use Rattle.std.specs.List.{ends_with}
 use Rattle.kit.specs.Lines.{raw_lines, content}
-use Rattle.kit.specs.White.{is_white, trim_end}
+use Rattle.kit.specs.White.{is_blank, trim_end}
 use Rattle.transfer_code.specs.Escapes.{digit_of, escape_in, unescaped}
 
 -- whether a line break, LF or CR LF, ends a raw line
@@ -13,8 +13,8 @@ is_broken raw = nat_lt (length (content raw)) (length raw)
 -- a soft one, which joins the next line, and any other break is an LF (10).
 abbrev pub trimmed_text : List ℕ → Bool → List ℕ
 trimmed_text line broken =
-    if ends_with nat_eq line (codes "=") then unescaped 61 (take (length line - 1) line)
-    else unescaped 61 line ++ (if broken then 10 ∷ [] else [])
+    if ends_with nat_eq line (codes "=") then unescaped (take (length line - 1) line)
+    else unescaped line ++ (if broken then 10 ∷ [] else [])
 
 -- what a line stands for: transport may have added white space at its end
 abbrev pub line_text : List ℕ → Bool → List ℕ
@@ -24,12 +24,12 @@ line_text content broken = trimmed_text (trim_end content) broken
 -- right. Of white space at the end only the line break is left (rules 3 and 4); `=` before it is a soft break (rule 5);
 -- an escape is its byte (rule 1); and any other byte stands for itself (rule 2).
 pub data LineText (broken : Bool) : List ℕ → List ℕ → Type 0 where
-  line_end : (rest : List ℕ) → list_all is_white rest ≡ true → LineText broken rest (if broken then 10 ∷ [] else [])
-  soft_break : (rest : List ℕ) → list_all is_white rest ≡ true → LineText broken (61 ∷ rest) []
+  line_end : (rest : List ℕ) → is_blank rest ≡ true → LineText broken rest (if broken then 10 ∷ [] else [])
+  soft_break : (rest : List ℕ) → is_blank rest ≡ true → LineText broken (61 ∷ rest) []
   an_escape : (high low h l : ℕ) (rest out : List ℕ) → digit_of high ≡ Some h → digit_of low ≡ Some l
       → LineText broken rest out → LineText broken (61 ∷ high ∷ low ∷ rest) ((16 * h + l) ∷ out)
-  a_byte : (b : ℕ) (rest out : List ℕ) → list_all is_white (b ∷ rest) ≡ false → (b == 61 && list_all is_white rest) ≡ false
-      → escape_in 61 (b ∷ rest) ≡ None → LineText broken rest out → LineText broken (b ∷ rest) (b ∷ out)
+  a_byte : (b : ℕ) (rest out : List ℕ) → is_blank (b ∷ rest) ≡ false → (b == 61 && is_blank rest) ≡ false
+      → escape_in (b ∷ rest) ≡ None → LineText broken rest out → LineText broken (b ∷ rest) (b ∷ out)
 
 -- what text in quoted-printable stands for
 abbrev pub decode_quoted : List ℕ → List ℕ

@@ -1,4 +1,4 @@
-//! Escapes: a sign and two hexadecimal digits.
+//! Escapes: `=` and two hexadecimal digits.
 ghost use Rattle.std.specs.Prelude.{◌≡◌, ◌++◌, ℕ, List, IfOk, OnOk};
 ghost use Rattle.transfer_code.specs.Escapes.{Unescapes, digit_of, escape_in, unescaped};
 
@@ -18,11 +18,11 @@ fn digit_of(b: u8) -> Option<u8>
 }
 
 /// The byte of the escape that the bytes begin with.
-fn escape_in(sign: u8, bytes: &[u8]) -> Option<u8>
-    ensures { result ≡ escape_in sign bytes.now }
+fn escape_in(bytes: &[u8]) -> Option<u8>
+    ensures { result ≡ escape_in bytes.now }
 {
     match bytes {
-        [first, high, low, ..] if *first == sign => {
+        [b'=', high, low, ..] => {
             let high = digit_of(*high)?;
             let low = digit_of(*low)?;
             Some(16 * high + low)
@@ -32,12 +32,12 @@ fn escape_in(sign: u8, bytes: &[u8]) -> Option<u8>
 }
 
 /// Adds bytes, each escape as its byte.
-pub fn push_unescaped(out: &mut Vec<u8>, sign: u8, bytes: &[u8]) -> Result<(), Memory>
-    ensures { OnOk result (out.new.items ≡ out.old.items ++ unescaped sign bytes.now) }
+pub fn push_unescaped(out: &mut Vec<u8>, bytes: &[u8]) -> Result<(), Memory>
+    ensures { OnOk result (out.new.items ≡ out.old.items ++ unescaped bytes.now) }
 {
     let mut i = 0;
     while i < bytes.len() {
-        if let Some(byte) = escape_in(sign, &bytes[i..]) {
+        if let Some(byte) = escape_in(&bytes[i..]) {
             out.push(byte)?;
             i += 3;
         } else {
@@ -48,16 +48,16 @@ pub fn push_unescaped(out: &mut Vec<u8>, sign: u8, bytes: &[u8]) -> Result<(), M
     Ok(())
 }
 
-/// The bytes, each escape as its byte: the sign and two hexadecimal digits of either case. A sign that no two such
-/// digits follow stands for itself. The sign is `=` in an encoded word (RFC 2047, section 4.2), and `%` in a
-/// parameter (RFC 2231, section 4). Takes memory, and is `Err` only where there is none.
-pub fn unescaped(alloc: Global, sign: u8, bytes: &[u8]) -> Result<Vec<u8>, Memory>
-    ensures value { IfOk result (λ out. out.items ≡ unescaped sign bytes.now) }
+/// The bytes, each escape as its byte: `=` and two hexadecimal digits of either case, as in an encoded word (RFC 2047,
+/// section 4.2). A `=` that no two such digits follow stands for itself. Takes memory, and is `Err` only where there is
+/// none.
+pub fn unescaped(alloc: Global, bytes: &[u8]) -> Result<Vec<u8>, Memory>
+    ensures value { IfOk result (λ out. out.items ≡ unescaped bytes.now) }
     // The same by cases on the bytes that are left: they stand for these bytes and for no others.
-    ensures stands { IfOk result (λ out. Unescapes sign bytes.now out.items) }
-    ensures alone { IfOk result (λ out. (other : List ℕ) → Unescapes sign bytes.now other → other ≡ out.items) }
+    ensures stands { IfOk result (λ out. Unescapes bytes.now out.items) }
+    ensures alone { IfOk result (λ out. (other : List ℕ) → Unescapes bytes.now other → other ≡ out.items) }
 {
     let mut out = Vec::new(alloc);
-    push_unescaped(&mut out, sign, bytes)?;
+    push_unescaped(&mut out, bytes)?;
     Ok(out)
 }

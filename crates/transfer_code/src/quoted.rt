@@ -12,9 +12,9 @@ fn push_line(out: &mut Vec<u8>, content: &[u8], broken: bool) -> Result<(), Memo
     ensures { OnOk result (out.new.items ≡ out.old.items ++ line_text content.now broken) }
 {
     match trim_end(content) {
-        [joined @ .., b'='] => push_unescaped(out, b'=', joined)?,
+        [joined @ .., b'='] => push_unescaped(out, joined)?,
         line => {
-            push_unescaped(out, b'=', line)?;
+            push_unescaped(out, line)?;
             if broken {
                 out.push(b'\n')?;
             }

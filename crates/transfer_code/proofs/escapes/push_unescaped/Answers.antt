@@ -7,4 +7,4 @@ pub loop-i-preserved-in-Some : goal.loop-i-preserved-in-Some
 loop-i-preserved-in-Some c =
     let found = sym c.in-Some.ensures in
     rw c.in_ok-push.ensures.items
-    (after_escape c.args.sign c.loop-i.i c.in-Some.byte c.loop-i.out.items c.args.bytes.now _ (rw take_rest at found) c.loop-i.invariant)
+    (after_escape c.loop-i.i c.in-Some.byte c.loop-i.out.items c.args.bytes.now _ (rw take_rest at found) c.loop-i.invariant)
