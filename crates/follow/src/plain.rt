@@ -12,7 +12,7 @@ ghost use Rattle.follow.specs.Plain.{is_plain_byte, plain_address, before, betwe
 use crate::card::Card;
 use crate::dates::plain_moment;
 use crate::utf8::text_of;
-use kit::{Addr, Id, Memory, Text, is_printing, lines, split_once};
+use kit::{Addr, Id, Memory, Text, behind, is_printing, lines, split_once};
 use std::alloc::Global;
 use std::collections::BTreeSet;
 
@@ -53,7 +53,7 @@ fn before<'a>(back: &[u8], bytes: &'a [u8]) -> Option<&'a [u8]>
 fn between<'a>(front: &[u8], back: &[u8], bytes: &'a [u8]) -> Option<&'a [u8]>
     ensures { option_copied result ≡ between front.now back.now bytes.now }
 {
-    before(back, bytes.strip_prefix(front)?)
+    before(back, behind(front, bytes)?)
 }
 
 fn are_alphanumeric(word: &[u8]) -> bool

@@ -1,6 +1,6 @@
 //! What every other crate stands on: want of memory, bytes that own their memory, texts, message ids,
-//! mail addresses, charsets, lines, white space, comments and printing bytes, and a count of steps. A contract sees bytes, a text,
-//! an id and an address as its list of bytes.
+//! mail addresses, charsets, lines, cuts, white space, comments and printing bytes, and a count of steps. A contract sees
+//! bytes, a text, an id and an address as its list of bytes.
 #![tactic(auto)]
 
 mod addr;
