@@ -1,8 +1,8 @@
 -- An encoded word (RFC 2047, section 2): `=?` charset `?` encoding `?` text `?=`.
-use Rattle.std.specs.Prelude.{ℕ, ◌&&◌, ◌==◌, if◌then◌else◌, List, map, codes, Option, Some, None, option_map, unwrap_or}
+use Rattle.std.specs.Prelude.{ℕ, ◌&&◌, ◌==◌, if◌then◌else◌, List, map, codes, Option, Some, None, option_map}
 use Rattle.kit.specs.declared.charset.Charset.{Charset}
 use Rattle.kit.specs.Charsets.{charset_of, to_text}
-use Rattle.kit.specs.Cuts.{behind, split_once}
+use Rattle.kit.specs.Cuts.{before, behind, split_once}
 use Rattle.kit.specs.Letters.{same_name}
 use Rattle.kit.specs.Options.{◌>>=◌}
 use Rattle.kit.specs.Printing.{is_printing, is_visible}
@@ -24,7 +24,7 @@ cut bytes = split_once bytes 63
 
 -- the name of a charset up to the `*` (42) before a language, if there is one (RFC 2231, section 5)
 abbrev pub without_language : List ℕ → List ℕ
-without_language name = unwrap_or (option_map (λ parts. parts.0) (split_once name 42)) name
+without_language name = before name 42
 
 abbrev pub coding_of : List ℕ → Option Coding
 coding_of name = if same_name name (codes "q") then Some Q else if same_name name (codes "b") then Some B else None

@@ -4,7 +4,7 @@ ghost use Rattle.encoded_words.specs.Words.{without_language, coding_of, word_at
 ghost use Rattle.encoded_words.specs.Views.{found};
 
 use kit::{
-    Charset, Memory, Text, behind, charset_of, is_printing, is_visible, same_name, split_once,
+    Charset, Memory, Text, before, behind, charset_of, is_printing, is_visible, same_name, split_once,
     to_text,
 };
 use std::alloc::Global;
@@ -33,10 +33,7 @@ pub struct Word<'a> {
 fn without_language(name: &[u8]) -> &[u8]
     ensures { result.now ≡ without_language name.now }
 {
-    match split_once(name, b'*') {
-        Some((charset, _language)) => charset,
-        None => name,
-    }
+    before(name, b'*')
 }
 
 fn coding_of(name: &[u8]) -> Option<Coding>

@@ -9,12 +9,12 @@ use Rattle.std.proofs.lemmas.Bool.Decides.{nat_tests}
 use Rattle.std.proofs.lemmas.Cmp.{nat_list_eq_equiv}
 use Rattle.std.proofs.lemmas.List.{get_or-take}
 use Rattle.std.proofs.lemmas.List.Elements.{All-filter, All-from_get_or, All-from_recursion, All-same, All-weaker, filter-append, filter_passes, recursion_from_All}
-use Rattle.std.proofs.lemmas.List.Folds.{list_any-append}
+use Rattle.std.proofs.lemmas.List.Folds.{list_any-append, list_any_none}
 use Rattle.std.proofs.lemmas.Map.Keys.{IsDistinct-cons, IsDistinct-head, IsDistinct-tail, apart_from_distinct}
 use Rattle.std.proofs.lemmas.Map.Text.{is_eq-slice_cmp}
 use Rattle.std.proofs.lemmas.Map.Views.{any-filter_same}
 use Rattle.std.proofs.lemmas.Slice.Eq.{bytes_eq-Decides}
-use Rattle.kit.specs.Distinct.{each_once, firsts}
+use Rattle.kit.specs.Distinct.{are_distinct, each_once, firsts}
 
 -- a filter keeps elements apart
 pub IsDistinct-filter : {X : Type 0} (same : X → X → Bool) (test : X → Bool) (xs : List X) → IsDistinct same xs → IsDistinct same (filter test xs)
@@ -38,6 +38,16 @@ IsDistinct-firsts {X} alike (x ∷ xs) =
     let rest = filter others (firsts alike xs) in
     let first : All Apart rest = All-weaker (λ y. others y ≡ true) Apart (λ y. not-true (alike x y)) rest (filter_passes others (firsts alike xs)) in
     IsDistinct-cons alike x rest (recursion_from_All Apart rest first) (IsDistinct-filter alike others (firsts alike xs) (IsDistinct-firsts alike xs))
+
+-- a list of which no two are alike is without repeats
+are_distinct-from : (xs : List (List ℕ)) → IsDistinct bytes_eq xs → are_distinct xs ≡ true
+are_distinct-from [] apart = refl
+are_distinct-from (x ∷ xs) apart =
+    let none = list_any_none (bytes_eq x) xs (All-from_recursion (λ y. bytes_eq x y ≡ false) xs (IsDistinct-head bytes_eq x xs apart)) in
+    rw (none, are_distinct-from xs (IsDistinct-tail bytes_eq x xs apart)) refl
+
+pub are_distinct_once : (xs : List (List ℕ)) → are_distinct (each_once xs) ≡ true
+are_distinct_once xs = are_distinct-from (each_once xs) (IsDistinct-firsts bytes_eq xs)
 
 -- the ones before a place are apart from the one there
 pub each_once-before : (xs ys : List (List ℕ)) (y : List ℕ) → let once = each_once xs in ys ≡ take (length ys) once → length ys < length once → y ≡ get_or once (length ys) y

@@ -1,7 +1,7 @@
 //! Cutting bytes in two.
 ghost use Rattle.std.specs.Prelude.{◌≡◌, ◌≢◌, ◌++◌, ◌==◌, ◌<◌, ℕ, List, IfNone, IfSome, length, option_map, position};
 ghost use Rattle.std.specs.Option.{option_copied};
-ghost use Rattle.kit.specs.Cuts.{behind, split_once};
+ghost use Rattle.kit.specs.Cuts.{before, behind, split_once};
 
 fn place_of(bytes: &[u8], wanted: u8) -> Option<usize>
     ensures value { result ≡ position (λ b. b == wanted) bytes.now }
@@ -18,6 +18,16 @@ pub fn split_once(bytes: &[u8], wanted: u8) -> Option<(&[u8], &[u8])>
 {
     let at = place_of(bytes, wanted)?;
     Some((&bytes[..at], &bytes[at + 1..]))
+}
+
+/// What stands before the first byte that is the one wanted, or all bytes where none is. Takes no memory.
+pub fn before(bytes: &[u8], wanted: u8) -> &[u8]
+    ensures { result.now ≡ before bytes.now wanted }
+{
+    match split_once(bytes, wanted) {
+        Some((front, _behind)) => front,
+        None => bytes,
+    }
 }
 
 /// What stands behind a front: `None` exactly where the bytes do not begin with it. Takes no memory.

@@ -22,7 +22,7 @@ pub use addr::Addr;
 pub use bytes::Bytes;
 pub use charset::{Charset, charset_of, to_text};
 pub use comment::{begins_pair, depth_behind};
-pub use cut::{behind, split_once};
+pub use cut::{before, behind, split_once};
 pub use id::Id;
 pub use letters::{lower, same_name};
 pub use line::{Line, content, lines};
