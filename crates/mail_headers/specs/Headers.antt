@@ -1,5 +1,5 @@
 -- The header of a mail: the lines before the first empty one (RFC 5322, sections 2.1 and 2.2).
-use Rattle.std.specs.Prelude.{ℕ, ◌+◌, Bool, not, ◌==◌, List, length, take, take_while, map, find, Option, option_map}
+use Rattle.std.specs.Prelude.{ℕ, ◌+◌, Bool, not, ◌==◌, List, [], length, take, take_while, map, find, Option, option_map, unwrap_or}
 use Rattle.std.specs.List.{concat}
 use Rattle.kit.specs.Letters.{same_name}
 use Rattle.kit.specs.Lines.{raw_lines, content}
@@ -31,3 +31,7 @@ header_of mail =
 -- the body of the first field of a name
 abbrev pub first_of : Head → List ℕ → Option (List ℕ)
 first_of head name = option_map (λ field. field.body) (find (λ field. same_name field.name name) head.fields)
+
+-- the body of the first field of a name; a field that is missing says what an empty one does
+abbrev pub field : Head → List ℕ → List ℕ
+field head name = unwrap_or (first_of head name) []

@@ -28,7 +28,7 @@ impl Header {
     ghost use Rattle.std.specs.Prelude.{◌≡◌, ◌↔◌, Any, IsSome, IsTrue, length};
     ghost use Rattle.kit.specs.Letters.{same_name};
     ghost use Rattle.std.specs.Option.{option_copied};
-    ghost use Rattle.mail_headers.specs.Headers.{first_of};
+    ghost use Rattle.mail_headers.specs.Headers.{field, first_of};
 
     /// The body of the first field of that name, where the case of ASCII letters does not count:
     /// `None` exactly where the header has no field of that name. The body is what follows the colon,
@@ -43,6 +43,14 @@ impl Header {
             .iter()
             .find(|field| same_name(field.name.bytes(), name))?;
         Some(field.body.bytes())
+    }
+
+    /// The body of the first field of that name, as `first` gives it, or an empty one where the header has
+    /// no field of that name. Takes no memory.
+    pub fn field(&self, name: &[u8]) -> &[u8]
+        ensures { result.now ≡ field self.now name.now }
+    {
+        self.first(name).unwrap_or(b"")
     }
 
     /// The number of fields; where several share a name, each is counted. Takes no memory.

@@ -1,7 +1,7 @@
 -- The tree of the parts of a mail (RFC 2046, section 5.1), in preorder.
 use Rattle.std.specs.Prelude.{ℕ, zero, suc, ◌+◌, ◌-◌, ◌==◌, Bool, false, true, not, ◌&&◌, nat_le, nat_lt, if◌then◌else◌, List, [], ◌∷◌, ◌++◌, length, codes, bytes_eq, Option, Some, None, option_map, unwrap_or}
 use Rattle.kit.specs.Options.{◌>>=◌}
-use Rattle.mail_headers.specs.Headers.{Head, first_of, header_of}
+use Rattle.mail_headers.specs.Headers.{Head, field, header_of}
 use Rattle.transfer_code.specs.Encodings.{encoding_of}
 use Rattle.mime_parts.specs.declared.multipart.Span.{Span}
 use Rattle.mime_parts.specs.declared.part.PartNode.{PartNode}
@@ -21,10 +21,6 @@ abbrev pub part_at : List ℕ → Span → Part
 part_at body span =
     let head = header_of (bytes_at body span) in
     part head (record { start = span.start + head.body_at; end = span.end })
-
--- the body of the first field of a name; a field that is missing says what an empty one does
-abbrev pub field : Head → List ℕ → List ℕ
-field head name = unwrap_or (first_of head name) []
 
 abbrev pub kind_of : Bool → Head → Kind
 kind_of digest head = content_type_in digest (field head (codes "Content-Type"))

@@ -15,5 +15,5 @@ mod tree;
 pub use content_type::{ContentType, read_content_type};
 pub use disposition::{Disposition, read_disposition};
 pub use param::Param;
-pub use part::PartNode;
+pub use part::{PartNode, is_kind};
 pub use tree::{PartTree, parts};

@@ -1,7 +1,7 @@
 //! The parts of a mail.
 ghost use Rattle.std.specs.Prelude.{◌≡◌, Bool, IfOk};
 ghost use Rattle.std.specs.Option.{option_copied};
-ghost use Rattle.mime_parts.specs.Trees.{boundary_of, field, file_name, is_digest, is_kind, kind_of, node_of, part};
+ghost use Rattle.mime_parts.specs.Trees.{boundary_of, file_name, is_digest, is_kind, kind_of, node_of, part};
 
 use crate::content_type::{ContentType, content_type_in};
 use crate::disposition::read_disposition;
@@ -35,21 +35,15 @@ pub struct PartNode {
     pub leaf: bool,
 }
 
-/// The body of the first field of a name, or an empty one.
-fn field<'a>(header: &'a Header, name: &[u8]) -> &'a [u8]
-    ensures { result.now ≡ field header.now name.now }
-{
-    header.first(name).unwrap_or(b"")
-}
-
 /// The content type that a header tells, in a digest or elsewhere.
 pub fn kind_of(alloc: Global, digest: bool, header: &Header) -> Result<ContentType, Memory>
     ensures { IfOk result (λ kind. kind ≡ kind_of digest header.now) }
 {
-    content_type_in(alloc, digest, field(header, b"Content-Type"))
+    content_type_in(alloc, digest, header.field(b"Content-Type"))
 }
 
-fn is_kind(top: &[u8], sub: &[u8], kind: &ContentType) -> bool
+/// Whether a content type is that of these two names, which are in small letters (RFC 2045, section 5.1). Takes no memory.
+pub fn is_kind(top: &[u8], sub: &[u8], kind: &ContentType) -> bool
     ensures { result ≡ is_kind top.now sub.now kind.now }
 {
     kind.top.bytes() == top && kind.sub.bytes() == sub
@@ -102,12 +96,12 @@ pub fn node_of(
     ensures { (digest : Bool) → kind ≡ kind_of digest header.now
         → IfOk result (λ node. node ≡ node_of levels digest (part header.now content) leaf) }
 {
-    let told = read_disposition(alloc, field(header, b"Content-Disposition"))?;
+    let told = read_disposition(alloc, header.field(b"Content-Disposition"))?;
     let name = file_name(alloc, told.name, &kind)?;
     Ok(PartNode {
         depth: DEEPEST.saturating_sub(levels),
         kind,
-        encoding: encoding_of(field(header, b"Content-Transfer-Encoding")),
+        encoding: encoding_of(header.field(b"Content-Transfer-Encoding")),
         attach: told.attach,
         name,
         start: content.start,
