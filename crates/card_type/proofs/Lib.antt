@@ -3,4 +3,5 @@ pub mod KeyBytes
 pub mod Maps
 pub mod Orders
 pub mod Weights
+pub mod WorkedCards
 mod Rows

@@ -17,29 +17,17 @@ use Rattle.card_type.specs.Kinds.{kind_of}
 use Rattle.card_type.specs.Records.{record_of, weight, capped}
 use Rattle.card_type.specs.Rules.{is_valid}
 use Rattle.card_type.specs.Spots.{spot_cmp}
+use Rattle.card_type.proofs.WorkedCards.{bob, me, M1, O1}
 
-abbrev bob : List ℕ
-bob = codes "bob@x.org"
-
-abbrev me : List ℕ
-me = codes "me@x.org"
-
--- a chat mail from Bob, and one from oneself
-abbrev m1 : Card
-m1 = record (card_of (codes "m1@x.org") bob) { from_name = codes "Bob"; to = me ∷ []; date = Some 1714557600; chat = true; text = codes "Hi" }
-
-abbrev o1 : Card
-o1 = record (card_of (codes "o1@x.org") me) { to = bob ∷ []; chat = true; text = codes "Dinner?" }
-
--- the first, edited, taken back and read by one sender or another
+-- a chat mail from Bob, edited, taken back and read by one sender or another
 abbrev edit_by : List ℕ → Card
-edit_by from = record (card_of (codes "e1@x.org") from) { edit = Some m1.id; text = codes "Hello" }
+edit_by from = record (card_of (codes "e1@x.org") from) { edit = Some M1.id; text = codes "Hello" }
 
 abbrev delete_by : List ℕ → Card
-delete_by from = record (card_of (codes "x2@x.org") from) { deletes = codes "a" ∷ m1.id ∷ [] }
+delete_by from = record (card_of (codes "x2@x.org") from) { deletes = codes "a" ∷ M1.id ∷ [] }
 
 abbrev receipt_by : List ℕ → Card
-receipt_by from = record (card_of (codes "n1@x.org") from) { receipt = Some o1.id }
+receipt_by from = record (card_of (codes "n1@x.org") from) { receipt = Some O1.id }
 
 -- an app, and a move in it
 abbrev app : Card
@@ -52,11 +40,11 @@ move_by from =
       updates = record { payload = Json (codes "{}"); info = Some (codes "e4"); document = None; summary = None } ∷ [];
     }
 
-weight_m1 : weight m1 ≡ 108
+weight_m1 : weight M1 ≡ 108
 weight_m1 = refl
 
 -- the date is 1714557600, and each run of zeros is fields that are empty or false
-record_m1 : record_of m1 ≡
+record_m1 : record_of M1 ≡
     (0 ∷ 0 ∷ 0 ∷ 8 ∷ codes "m1@x.org") ++ (0 ∷ 0 ∷ 0 ∷ 9 ∷ codes "bob@x.org") ++ (0 ∷ 0 ∷ 0 ∷ 3 ∷ codes "Bob")
     ++ (0 ∷ 0 ∷ 0 ∷ 1 ∷ 0 ∷ 0 ∷ 0 ∷ 8 ∷ codes "me@x.org") ++ (0 ∷ 0 ∷ 0 ∷ 0 ∷ [])
     ++ (1 ∷ 0 ∷ 0 ∷ 0 ∷ 0 ∷ 102 ∷ 50 ∷ 18 ∷ 160 ∷ []) ++ replicate 8 0
@@ -70,16 +58,16 @@ weight_of_an_update = refl
 capped_at_the_end : capped (18446744073709551615 + 1) ≡ 18446744073709551615
 capped_at_the_end = refl
 
-kind_plain : kind_of m1 ≡ kinds.Content
+kind_plain : kind_of M1 ≡ kinds.Content
 kind_plain = refl
 
 kind_edit : kind_of (edit_by bob) ≡ kinds.Edit
 kind_edit = refl
 
-kind_delete : kind_of (record (edit_by bob) { deletes = m1.id ∷ [] }) ≡ kinds.Delete
+kind_delete : kind_of (record (edit_by bob) { deletes = M1.id ∷ [] }) ≡ kinds.Delete
 kind_delete = refl
 
-kind_receipt : kind_of (record (delete_by bob) { receipt = Some o1.id }) ≡ kinds.Receipt
+kind_receipt : kind_of (record (delete_by bob) { receipt = Some O1.id }) ≡ kinds.Receipt
 kind_receipt = refl
 
 kind_update : kind_of (move_by bob) ≡ kinds.Update
@@ -88,28 +76,28 @@ kind_update = refl
 kind_update_of_app : kind_of (record (move_by bob) { app = true }) ≡ kinds.Content
 kind_update_of_app = refl
 
-effect_edit : effect_of (edit_by bob) m1 me ≡ Some effects.Edit
+effect_edit : effect_of (edit_by bob) M1 me ≡ Some effects.Edit
 effect_edit = refl
 
-effect_edit_by_stranger : effect_of (edit_by (codes "eve@x.org")) m1 me ≡ None
+effect_edit_by_stranger : effect_of (edit_by (codes "eve@x.org")) M1 me ≡ None
 effect_edit_by_stranger = refl
 
-effect_edit_of_another : effect_of (edit_by me) o1 me ≡ None
+effect_edit_of_another : effect_of (edit_by me) O1 me ≡ None
 effect_edit_of_another = refl
 
-effect_delete : effect_of (delete_by bob) m1 me ≡ Some effects.Delete
+effect_delete : effect_of (delete_by bob) M1 me ≡ Some effects.Delete
 effect_delete = refl
 
-effect_delete_by_stranger : effect_of (delete_by (codes "eve@x.org")) m1 me ≡ None
+effect_delete_by_stranger : effect_of (delete_by (codes "eve@x.org")) M1 me ≡ None
 effect_delete_by_stranger = refl
 
-effect_read : effect_of (receipt_by bob) o1 me ≡ Some effects.Read
+effect_read : effect_of (receipt_by bob) O1 me ≡ Some effects.Read
 effect_read = refl
 
-effect_read_by_oneself : effect_of (receipt_by me) o1 me ≡ None
+effect_read_by_oneself : effect_of (receipt_by me) O1 me ≡ None
 effect_read_by_oneself = refl
 
-effect_read_of_received : effect_of (record (receipt_by bob) { receipt = Some m1.id }) m1 me ≡ None
+effect_read_of_received : effect_of (record (receipt_by bob) { receipt = Some M1.id }) M1 me ≡ None
 effect_read_of_received = refl
 
 effect_update : effect_of (move_by bob) app me ≡ Some effects.Update
@@ -124,13 +112,13 @@ effect_update_by_stranger = refl
 effect_update_of_no_app : effect_of (move_by bob) (record app { app = false }) me ≡ None
 effect_update_of_no_app = refl
 
-effect_update_second_reply : effect_of (record (move_by bob) { replies = m1.id ∷ app.id ∷ [] }) app me ≡ None
+effect_update_second_reply : effect_of (record (move_by bob) { replies = M1.id ∷ app.id ∷ [] }) app me ≡ None
 effect_update_second_reply = refl
 
 effect_on_edit : effect_of (record (delete_by bob) { deletes = codes "e1@x.org" ∷ [] }) (edit_by bob) me ≡ None
 effect_on_edit = refl
 
-effect_of_content : effect_of m1 m1 me ≡ None
+effect_of_content : effect_of M1 M1 me ≡ None
 effect_of_content = refl
 
 group_shortest : is_group (codes "abcdefghijk") ≡ true
@@ -187,33 +175,33 @@ spot_by_id = refl
 spot_by_uid : spot_cmp (record { date = 1; id = codes "a"; uid = 10 }) (record { date = 1; id = codes "a"; uid = 9 }) ≡ Greater
 spot_by_uid = refl
 
-valid_m1 : is_valid m1 ≡ true
+valid_m1 : is_valid M1 ≡ true
 unfolding is_utf8 chars lib.Utf8.encode
 valid_m1 = refl
 
-valid_last_moment : is_valid (record m1 { date = Some 253402300799 }) ≡ true
+valid_last_moment : is_valid (record M1 { date = Some 253402300799 }) ≡ true
 unfolding is_utf8 chars lib.Utf8.encode
 valid_last_moment = refl
 
-date_too_late : is_valid (record m1 { date = Some 253402300800 }) ≡ false
+date_too_late : is_valid (record M1 { date = Some 253402300800 }) ≡ false
 date_too_late = refl
 
-to_twice : is_valid (record m1 { to = me ∷ bob ∷ me ∷ [] }) ≡ false
+to_twice : is_valid (record M1 { to = me ∷ bob ∷ me ∷ [] }) ≡ false
 unfolding is_utf8 chars lib.Utf8.encode
 to_twice = refl
 
-to_and_cc : is_valid (record m1 { cc = me ∷ [] }) ≡ true
+to_and_cc : is_valid (record M1 { cc = me ∷ [] }) ≡ true
 unfolding is_utf8 chars lib.Utf8.encode
 to_and_cc = refl
 
-capital_in_from : is_valid (record m1 { from = codes "Bob@x.org" }) ≡ false
+capital_in_from : is_valid (record M1 { from = codes "Bob@x.org" }) ≡ false
 unfolding is_utf8 chars lib.Utf8.encode
 capital_in_from = refl
 
-payload_empty : is_valid (record m1 { updates = record { payload = Json []; info = None; document = None; summary = None } ∷ [] }) ≡ false
+payload_empty : is_valid (record M1 { updates = record { payload = Json []; info = None; document = None; summary = None } ∷ [] }) ≡ false
 unfolding is_utf8 chars lib.Utf8.encode
 payload_empty = refl
 
-group_not_valid : is_valid (record m1 { group = Some (codes "short") }) ≡ false
+group_not_valid : is_valid (record M1 { group = Some (codes "short") }) ≡ false
 unfolding is_utf8 chars lib.Utf8.encode
 group_not_valid = refl

@@ -37,23 +37,26 @@ has_ids c =
     is_id c.id && list_all is_id c.replies && list_all is_id c.references && where_some is_id c.edit && list_all is_id c.deletes
     && where_some is_id c.receipt
 
--- addresses in small letters, each once in To and once in Cc, and a group id that is valid
-abbrev pub has_people : Card → Bool
-has_people c =
-    is_addr c.from && list_all is_addr c.to && are_distinct c.to && list_all is_addr c.cc && are_distinct c.cc
-    && where_some is_addr c.added && where_some is_addr c.removed && where_some is_group c.group
+-- addresses in small letters, and a group id that is valid
+abbrev pub has_addrs : Card → Bool
+has_addrs c =
+    is_addr c.from && list_all is_addr c.to && list_all is_addr c.cc && where_some is_addr c.added && where_some is_addr c.removed
+    && where_some is_group c.group
 
 abbrev pub has_texts : Card → Bool
 has_texts c =
-    is_utf8 c.from_name && is_utf8 c.group_name && is_utf8 c.subject && is_utf8 c.text && nat_le (length c.text) 32768
-    && list_all is_attachment c.attachments && list_all is_update c.updates
-
--- a date that is a moment, and a timer of 32 bits
-abbrev pub has_numbers : Card → Bool
-has_numbers c = where_some (λ date. nat_le date last_moment) c.date && nat_lt c.timer (2 ^ 32)
+    is_utf8 c.from_name && is_utf8 c.group_name && is_utf8 c.subject && is_utf8 c.text && list_all is_attachment c.attachments
 
 abbrev pub is_light : Card → Bool
 is_light c = nat_le (weight c) 1048576
 
+-- What the types of the values leave open: how heavy a card is, a date that is a moment, how long its text is, updates without
+-- empty values, and that each address stands once in To and once in Cc.
+abbrev pub keeps_bounds : Card → Bool
+keeps_bounds c =
+    is_light c && where_some (λ date. nat_le date last_moment) c.date && nat_le (length c.text) 32768
+    && list_all is_update c.updates && are_distinct c.to && are_distinct c.cc
+
+-- the last of these says that the timer has 32 bits
 abbrev pub is_valid : Card → Bool
-is_valid c = is_light c && has_numbers c && has_ids c && has_texts c && has_people c
+is_valid c = keeps_bounds c && has_ids c && has_addrs c && has_texts c && nat_lt c.timer (2 ^ 32)

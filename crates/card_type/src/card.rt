@@ -15,7 +15,7 @@ pub struct Attachment {
     pub kind: Text,
     /// The name of the file, empty where it has none.
     pub name: Text,
-    /// The number of bytes that its content has when it is decoded.
+    /// The number of bytes that its content has when it is decoded; a multipart that was not opened is counted as it stands.
     pub size: u64,
 }
 

@@ -22,5 +22,5 @@ pub use key::ChatKey;
 pub use key_map::KeyMap;
 pub use kind::{Kind, kind_of};
 pub use record::weight;
-pub use rules::is_valid;
+pub use rules::{is_light, is_valid, tell_types};
 pub use spot::Spot;

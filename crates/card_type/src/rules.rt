@@ -1,12 +1,13 @@
 //! The rules that a card keeps.
-ghost use Rattle.std.specs.Prelude.{◌≡◌, ℕ, List, Bool};
+ghost use Rattle.std.specs.Prelude.{◌≡◌, ◌^◌, ℕ, List, Bool, true, nat_le, nat_lt};
 ghost use Rattle.std.specs.List.{list_all};
 ghost use Rattle.std.specs.Str.{is_utf8};
 ghost use Rattle.kit.specs.Addresses.{is_addr};
 ghost use Rattle.kit.specs.Distinct.{are_distinct};
 ghost use Rattle.kit.specs.Ids.{is_id};
+ghost use Rattle.kit.specs.Moments.{last_moment};
 ghost use Rattle.card_type.specs.Groups.{is_group};
-ghost use Rattle.card_type.specs.Rules.{where_some, is_attachment, is_payload, is_update, has_ids, has_people, has_texts, has_numbers, is_light, is_valid};
+ghost use Rattle.card_type.specs.Rules.{where_some, is_attachment, is_update, has_ids, has_addrs, has_texts, is_light, keeps_bounds, is_valid};
 
 use crate::card::{Attachment, Card, Payload, Update};
 use crate::group_id::GroupId;
@@ -19,99 +20,138 @@ const HEAVIEST: u64 = 1_048_576;
 /// No text of a valid card has more bytes.
 const LONGEST_TEXT: usize = 32_768;
 
-/// A value that stands in a card and has a rule of its own. Ids, addresses, group ids and texts keep theirs
-/// always: their bodies read the bytes, by which the proof learns it.
-trait Ruled {
+/// A value of a card that keeps its rule always, since its type does. Reading its bytes is what tells the proof so.
+trait Typed {
     ghost rule: { Self → Bool };
 
-    /// Whether it keeps its rule.
-    fn keeps_rule(&self) -> bool
-        ensures { result ≡ rule self.now };
+    /// Tells that it keeps its rule, and does nothing.
+    fn tell(&self)
+        ensures { rule self.now ≡ true };
 }
 
-impl Ruled for Id {
+impl Typed for Id {
     ghost rule = { is_id };
 
-    fn keeps_rule(&self) -> bool {
+    fn tell(&self) {
         let _id = self.bytes();
-        true
     }
 }
 
-impl Ruled for Addr {
+impl Typed for Addr {
     ghost rule = { is_addr };
 
-    fn keeps_rule(&self) -> bool {
+    fn tell(&self) {
         let _addr = self.bytes();
-        true
     }
 }
 
-impl Ruled for GroupId {
+impl Typed for GroupId {
     ghost rule = { is_group };
 
-    fn keeps_rule(&self) -> bool {
+    fn tell(&self) {
         let _group = self.bytes();
-        true
     }
 }
 
-impl Ruled for Text {
+impl Typed for Text {
     ghost rule = { is_utf8 };
 
-    fn keeps_rule(&self) -> bool {
+    fn tell(&self) {
         let _utf8 = self.bytes();
-        true
     }
 }
 
-impl<T: Ruled> Ruled for Option<T> {
-    ghost rule = { where_some T.rule };
-
-    fn keeps_rule(&self) -> bool {
-        match self {
-            Some(value) => value.keeps_rule(),
-            None => true,
-        }
-    }
-}
-
-impl<T: Ruled> Ruled for Items<T> {
-    ghost rule = { list_all T.rule };
-
-    fn keeps_rule(&self) -> bool {
-        self.as_slice().iter().all(|value| value.keeps_rule())
-    }
-}
-
-impl Ruled for Attachment {
+impl Typed for Attachment {
     ghost rule = { is_attachment };
 
-    fn keeps_rule(&self) -> bool {
+    fn tell(&self) {
         let _size = self.size;
-        self.kind.keeps_rule() && self.name.keeps_rule()
+        self.kind.tell();
+        self.name.tell();
     }
 }
 
-impl Ruled for Payload {
-    ghost rule = { is_payload };
+impl<T: Typed> Typed for Option<T> {
+    ghost rule = { where_some T.rule };
 
-    fn keeps_rule(&self) -> bool {
-        match self {
-            Payload::Absent | Payload::Hidden => true,
-            Payload::Json(text) => text.keeps_rule() && 0 < text.bytes().len(),
+    fn tell(&self) {
+        if let Some(value) = self {
+            value.tell();
         }
     }
 }
 
-impl Ruled for Update {
-    ghost rule = { is_update };
+impl<T: Typed> Typed for Items<T> {
+    ghost rule = { list_all T.rule };
 
-    fn keeps_rule(&self) -> bool {
-        self.payload.keeps_rule()
-            && self.info.keeps_rule()
-            && self.document.keeps_rule()
-            && self.summary.keeps_rule()
+    fn tell(&self) {
+        for value in self.as_slice() {
+            value.tell();
+        }
+    }
+}
+
+fn tell_ids(card: &Card)
+    ensures { has_ids card.now ≡ true }
+{
+    card.id.tell();
+    card.replies.tell();
+    card.references.tell();
+    card.edit.tell();
+    card.deletes.tell();
+    card.receipt.tell();
+}
+
+fn tell_addrs(card: &Card)
+    ensures { has_addrs card.now ≡ true }
+{
+    card.from.tell();
+    card.to.tell();
+    card.cc.tell();
+    card.added.tell();
+    card.removed.tell();
+    card.group.tell();
+}
+
+fn tell_texts(card: &Card)
+    ensures { has_texts card.now ≡ true }
+{
+    card.from_name.tell();
+    card.group_name.tell();
+    card.subject.tell();
+    card.text.tell();
+    card.attachments.tell();
+}
+
+fn tell_timer(card: &Card)
+    ensures { nat_lt card.now.timer (2 ^ 32) ≡ true }
+{
+    let _timer = card.timer;
+}
+
+/// Tells which rules a card keeps whatever it holds, and does nothing: it is valid where it keeps those that the types of its
+/// values leave open. Takes no memory, and time for a pass over the lists.
+pub fn tell_types(card: &Card)
+    ensures { is_valid card.now ≡ keeps_bounds card.now }
+{
+    tell_ids(card);
+    tell_addrs(card);
+    tell_texts(card);
+    tell_timer(card);
+}
+
+fn is_update(update: &Update) -> bool
+    ensures { result ≡ is_update update.now }
+{
+    update.info.tell();
+    update.document.tell();
+    update.summary.tell();
+    match &update.payload {
+        Payload::Absent | Payload::Hidden => true,
+        Payload::Json(text) => {
+            text.tell();
+            !text.bytes().is_empty()
+        }
     }
 }
 
@@ -128,53 +168,23 @@ fn are_distinct(addrs: &[Addr]) -> bool
     true
 }
 
-fn has_ids(card: &Card) -> bool
-    ensures { result ≡ has_ids card.now }
+fn are_updates(updates: &[Update]) -> bool
+    ensures { result ≡ list_all is_update updates.now }
 {
-    card.id.keeps_rule()
-        && card.replies.keeps_rule()
-        && card.references.keeps_rule()
-        && card.edit.keeps_rule()
-        && card.deletes.keeps_rule()
-        && card.receipt.keeps_rule()
+    updates.iter().all(is_update)
 }
 
-fn has_people(card: &Card) -> bool
-    ensures { result ≡ has_people card.now }
+fn is_moment(date: Option<u64>) -> bool
+    ensures { result ≡ where_some (λ date. nat_le date last_moment) date }
 {
-    card.from.keeps_rule()
-        && card.to.keeps_rule()
-        && are_distinct(card.to.as_slice())
-        && card.cc.keeps_rule()
-        && are_distinct(card.cc.as_slice())
-        && card.added.keeps_rule()
-        && card.removed.keeps_rule()
-        && card.group.keeps_rule()
-}
-
-fn has_texts(card: &Card) -> bool
-    ensures { result ≡ has_texts card.now }
-{
-    card.from_name.keeps_rule()
-        && card.group_name.keeps_rule()
-        && card.subject.keeps_rule()
-        && card.text.keeps_rule()
-        && card.text.bytes().len() <= LONGEST_TEXT
-        && card.attachments.keeps_rule()
-        && card.updates.keeps_rule()
-}
-
-fn has_numbers(card: &Card) -> bool
-    ensures { result ≡ has_numbers card.now }
-{
-    let _timer = card.timer;
-    match card.date {
+    match date {
         Some(date) => date <= LAST_MOMENT,
         None => true,
     }
 }
 
-fn is_light(card: &Card) -> bool
+/// Whether a card weighs no more than a valid one: 1,048,576 or less. Takes no memory.
+pub fn is_light(card: &Card) -> bool
     ensures { result ≡ is_light card.now }
 {
     weight(card) <= HEAVIEST
@@ -188,6 +198,12 @@ fn is_light(card: &Card) -> bool
 pub fn is_valid(card: &Card) -> bool
     ensures { result ≡ is_valid card.now }
 {
+    tell_types(card);
     // The weight bounds what the other rules have to look at.
-    is_light(card) && has_numbers(card) && has_ids(card) && has_texts(card) && has_people(card)
+    is_light(card)
+        && is_moment(card.date)
+        && card.text.bytes().len() <= LONGEST_TEXT
+        && are_updates(card.updates.as_slice())
+        && are_distinct(card.to.as_slice())
+        && are_distinct(card.cc.as_slice())
 }

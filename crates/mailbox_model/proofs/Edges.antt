@@ -13,7 +13,7 @@ use Rattle.mailbox_model.specs.declared.change.Fault.TheVariants.{NoFields, NoFr
 use Rattle.mailbox_model.specs.Times.{time_text, civil_date, span_and_rest}
 use Rattle.mailbox_model.specs.Answers.{answer}
 use Rattle.mailbox_model.specs.Answers.Question.{AllChats, OneChat, AllContacts, AllUpdates}
-use Rattle.mailbox_model.proofs.WorkedCards.{me, at, bob, ann, cid, trip, M1, E1, O1, N1, N2, G1, G2, G4, R1, A1, U1}
+use Rattle.card_type.proofs.WorkedCards.{me, at, bob, ann, cid, trip, M1, E1, O1, N1, N2, G1, G2, G4, R1, A1, U1}
 use Rattle.mailbox_model.proofs.Worked.{box, noon}
 
 -- an update that is not shown, and one without a payload

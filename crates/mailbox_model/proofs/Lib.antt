@@ -9,6 +9,5 @@ pub mod PresentLaws
 pub mod ListLaws
 pub mod FrameLaws
 pub mod AnswerLaws
-mod WorkedCards
 mod Worked
 mod Edges

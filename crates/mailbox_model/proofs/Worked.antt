@@ -15,7 +15,7 @@ use Rattle.mailbox_model.specs.Turns.{turn}
 use Rattle.mailbox_model.specs.Times.{time_text, civil_date, span_and_rest}
 use Rattle.mailbox_model.specs.Answers.{answer}
 use Rattle.mailbox_model.specs.Answers.Question.{AllChats, OneChat, AllContacts, AllUpdates, InfoUpdates}
-use Rattle.mailbox_model.proofs.WorkedCards.{me, at, bob, ann, trip, M1, M2, E1, E2, X1, X2, T1, F2, O1, N1, N2, G0, G1, G2, G3, G4, G5, R1, R2, R3, A1, U1, U2, U3, H1, H2, H3, C1}
+use Rattle.card_type.proofs.WorkedCards.{me, at, bob, ann, trip, M1, M2, E1, E2, X1, X2, T1, F2, O1, N1, N2, G0, G1, G2, G3, G4, G5, R1, R2, R3, A1, U1, U2, U3, H1, H2, H3, C1}
 
 abbrev pub box : List Change → Mailbox
 box changes = after_all (empty_mailbox me) changes

@@ -1,32 +1,31 @@
 -- The cards of the worked mails, written by hand.
-use Rattle.std.specs.Prelude.{ℕ, ◌+◌, ◌*◌, true, false, Option, Some, None, [], ◌∷◌, codes}
+use Rattle.std.specs.Prelude.{ℕ, List, ◌+◌, ◌*◌, true, false, Option, Some, None, [], ◌∷◌, codes}
 use Rattle.card_type.specs.declared.card.Card.{Card}
 use Rattle.card_type.specs.declared.card.Attachment.{Attachment}
 use Rattle.card_type.specs.declared.card.Update.{Update}
 use Rattle.card_type.specs.declared.card.Payload.TheVariants.{Json}
 use Rattle.card_type.specs.Cards.{card_of}
-use Rattle.mailbox_model.specs.Lists.{Bytes}
 
-abbrev pub me : Bytes
+abbrev pub me : List ℕ
 me = codes "me@x.org"
 
-abbrev pub bob : Bytes
+abbrev pub bob : List ℕ
 bob = codes "bob@x.org"
 
-abbrev pub ann : Bytes
+abbrev pub ann : List ℕ
 ann = codes "ann@x.org"
 
-abbrev pub cid : Bytes
+abbrev pub cid : List ℕ
 cid = codes "cid@x.org"
 
-abbrev pub trip : Bytes
+abbrev pub trip : List ℕ
 trip = codes "abcdefghijk"
 
 -- a time of 2024-05-01, or of the day after it where the hour passes 23
 abbrev pub at : ℕ → ℕ → ℕ
 at hour minute = 1714521600 + hour * 3600 + minute * 60
 
-abbrev pub file : Bytes → Bytes → ℕ → Attachment
+abbrev pub file : List ℕ → List ℕ → ℕ → Attachment
 file kind name size = record { kind = kind; name = name; size = size }
 
 -- ---- a chat with Bob: a mail, a second copy of it, edits, and what a stranger asks for
@@ -44,7 +43,7 @@ abbrev pub E2 : Card
 E2 = record E1 { date = Some (at 10 3); id = codes "e2@x.org"; text = codes "Hey" }
 
 abbrev pub X1 : Card
-X1 = record M1 { from = codes "eve@x.org"; date = Some (at 10 6); id = codes "x1@x.org"; edit = Some (codes "m1@x.org"); text = codes "No" }
+X1 = record M1 { from = codes "eve@x.org"; from_name = []; date = Some (at 10 6); id = codes "x1@x.org"; edit = Some (codes "m1@x.org"); text = codes "No" }
 
 abbrev pub X2 : Card
 X2 = record X1 { id = codes "x2@x.org"; edit = None; deletes = codes "m1@x.org" ∷ [] }
@@ -54,7 +53,7 @@ T1 = record M1 { from_name = []; id = codes "t1@x.org"; timer = 60; text = codes
 
 -- a mail without Message-ID
 abbrev pub F2 : Card
-F2 = record M1 { from_name = []; date = Some 1893492000; id = codes "uid2@none"; text = codes "Late" }
+F2 = record M1 { from_name = []; date = Some 1903860000; id = codes "uid2@none"; text = codes "Late" }
 
 -- ---- a mail to Bob, and two receipts for it
 
@@ -68,7 +67,7 @@ N1 =
       date = Some (at 10 9);
       receipt = Some (codes "o1@x.org");
       text = codes "Read.";
-      attachments = file (codes "message/disposition-notification") [] 100 ∷ [];
+      attachments = file (codes "message/disposition-notification") [] 92 ∷ [];
     }
 
 abbrev pub N2 : Card
@@ -128,7 +127,7 @@ A1 =
       app = true;
     }
 
-abbrev pub move : Bytes → Option Bytes → Update
+abbrev pub move : List ℕ → Option (List ℕ) → Update
 move payload info = record { payload = Json payload; info = info; document = None; summary = None }
 
 abbrev pub U1 : Card
