@@ -1,0 +1,38 @@
+//! Why a reader of updates is refused.
+ghost use Rattle.std.specs.Prelude.{◌≡◌, ◌⊎◌};
+ghost use Rattle.serde_json.specs.Errors.{IsMemory};
+ghost use Rattle.part_read.specs.declared.fault.UpdateFault.TheVariants as faults;
+
+use kit::Memory;
+use serde_json::Error;
+
+/// Why bytes were not read as updates.
+#[derive(Clone, Copy, Debug, PartialEq, Eq)]
+pub enum UpdateFault {
+    /// They are not UTF-8, or no JSON.
+    NoJson,
+    /// They are JSON, and not an object with a list of objects.
+    NoList,
+    /// No memory was left.
+    Memory,
+}
+
+impl From<Memory> for UpdateFault {
+    ghost from_gives = { λ _ fault. fault ≡ faults.Memory };
+
+    fn from(_memory: Memory) -> Self {
+        UpdateFault::Memory
+    }
+}
+
+impl From<Error> for UpdateFault {
+    ghost from_gives = { λ error fault. (IsMemory error × (fault ≡ faults.Memory)) ⊎ (¬ IsMemory error × (fault ≡ faults.NoJson)) };
+
+    fn from(error: Error) -> Self {
+        if error.is_memory() {
+            UpdateFault::Memory
+        } else {
+            UpdateFault::NoJson
+        }
+    }
+}
