@@ -4,8 +4,8 @@ ghost use Rattle.encoded_words.specs.Words.{without_language, coding_of, word_at
 ghost use Rattle.encoded_words.specs.Views.{found};
 
 use kit::{
-    Charset, Memory, Text, before, behind, charset_of, is_printing, is_visible, same_name, split_once,
-    to_text,
+    Charset, Memory, Text, before, behind, charset_of, is_printing, is_visible, same_name,
+    split_once, to_text,
 };
 use std::alloc::Global;
 use transfer_code::{Encoding, decode_body, unescaped};

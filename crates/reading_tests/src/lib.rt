@@ -1,10 +1,12 @@
-//! Tests of the readers of a mail and of an mbox. It has no code of its own.
+//! Tests of the readers of a mail, of its parts and of an mbox. It has no code of its own.
 #![tactic(auto)]
 
 #[cfg(test)]
 mod addresses;
 #[cfg(test)]
 mod boxes;
+#[cfg(test)]
+mod cards;
 #[cfg(test)]
 mod dates;
 #[cfg(test)]
@@ -16,6 +18,10 @@ mod parameters;
 #[cfg(test)]
 mod parts;
 #[cfg(test)]
+mod receipts;
+#[cfg(test)]
 mod transfer;
+#[cfg(test)]
+mod updates;
 #[cfg(test)]
 mod values;

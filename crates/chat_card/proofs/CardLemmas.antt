@@ -1,0 +1,44 @@
+-- Lemmas on the rules that a card keeps, and on what a mail is answered.
+use Rattle.std.proofs.Common.{inr, ◌≡◌, ◌≤◌, ℕ, Bool, true, false, List, length, refl}
+use Rattle.std.specs.Prelude.{◌&&◌, ◌==◌, ◌⊎◌, drop, IfErr, IfOk, IfSome, IsTrue, Option, Some, None, Result, Ok, Err, nat_le}
+use Rattle.std.specs.List.{list_all}
+use Rattle.std.proofs.lemmas.Bool.{le-leb}
+use Rattle.kit.specs.Distinct.{are_distinct}
+use Rattle.kit.specs.Moments.{last_moment}
+use Rattle.mail_address.specs.declared.person.Person.{Person}
+use Rattle.mail_headers.specs.Headers.{Head}
+use Rattle.card_type.specs.declared.card.Card.{Card}
+use Rattle.card_type.specs.Rules.{is_light, is_update, keeps_bounds, where_some}
+use Rattle.chat_card.specs.Cards.{accepted, card_from, card_with}
+use Rattle.chat_card.specs.Envelope.{sender}
+
+-- ---- the bounds of a card
+
+-- what is true takes nothing from a conjunction
+kept : (light date room updates to cc : Bool) → date ≡ true → room ≡ true → updates ≡ true → to ≡ true → cc ≡ true
+    → (light && date && room && updates && to && cc) ≡ light
+kept true date room updates to cc d r u t c = rw (d, r, u, t, c) refl
+kept false date room updates to cc d r u t c = refl
+
+is_moment : (date : Option ℕ) → IfSome date (λ d. d ≤ last_moment) → where_some (λ d. nat_le d last_moment) date ≡ true
+is_moment None h = refl
+is_moment (Some d) h = le-leb d last_moment h
+
+pub bounds-kept : (c : Card) → IfSome c.date (λ d. d ≤ last_moment) → length c.text ≤ 32768 → IsTrue (list_all is_update c.updates)
+    → are_distinct c.to ≡ true → are_distinct c.cc ≡ true → keeps_bounds c ≡ is_light c
+bounds-kept c date room updates to cc = kept (is_light c) _ _ _ _ _ (is_moment c.date date) (le-leb (length c.text) 32768 room) updates to cc
+
+-- ---- answers
+
+pub ok-self : {X E : Type 0} (r : Result X E) → IfOk r (λ x. r ≡ Ok x)
+ok-self (Ok x) = refl
+ok-self (Err e) = tt
+
+pub err-self : {X E : Type 0} (P : E → Type 0) (r : Result X E) → IfErr r (λ e. P e ⊎ (r ≡ Err e))
+err-self P (Ok x) = tt
+err-self P (Err e) = inr refl
+
+-- a mail that has a field and a sender has a card, unless that is too heavy
+pub answered : (uid : ℕ) (head : Head) (mail : List ℕ) (from : Person) → (length head.fields == 0) ≡ false → sender head ≡ Some from
+    → card_with uid head mail ≡ accepted (card_from uid head from (drop head.body_at mail))
+answered uid head mail from some sent = rw (some, sent) refl

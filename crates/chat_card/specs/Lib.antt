@@ -1,0 +1,12 @@
+pub mod Envelope
+pub mod Requests
+pub mod Parts
+pub mod Shown
+pub mod Leaves
+pub mod Views
+pub mod Walks
+pub mod Files
+pub mod Receipts
+pub mod Contents
+pub mod Texts
+pub mod Cards

@@ -1,0 +1,129 @@
+-- What a mail shows of its parts: which leaf is a text, which is a file, and which is dropped (RFC 2046, section 5.1.4;
+-- RFC 2183).
+use Rattle.std.specs.Prelude.{ℕ, ◌==◌, nat_lt, Bool, true, false, not, ◌&&◌, ◌||◌, if◌then◌else◌, List, [], ◌∷◌, ◌++◌, length, codes, bytes_eq, Option, Some, None}
+use Rattle.std.specs.List.{cons_option, filter_map, join_with_byte}
+use Rattle.kit.specs.Charsets.{charset_of, to_text}
+use Rattle.kit.specs.Letters.{same_name}
+use Rattle.flowed_text.specs.Flowed.{unflow, user_text}
+use Rattle.mime_parts.specs.declared.part.PartNode.{PartNode}
+use Rattle.mime_parts.specs.Kinds.{Kind}
+use Rattle.mime_parts.specs.Trees.{is_kind}
+use Rattle.chat_card.specs.declared.kept.Way.{Way}
+use Rattle.chat_card.specs.declared.kept.Way.TheVariants.{Together, Choice, Beside}
+use Rattle.chat_card.specs.declared.part.Part.{Part}
+use Rattle.chat_card.specs.Parts.{param}
+
+-- ---- the parts as trees
+
+-- trees one after the other: the first part, the trees in it, and the trees that follow it
+pub data Forest : Type 0 where
+  Nothing : Forest
+  Then : (first : Part) → (within : Forest) → (more : Forest) → Forest
+
+-- the leading trees that are deeper than a part at a depth: those in it
+abbrev pub young : ℕ → Forest → Forest
+young depth Nothing = Nothing
+young depth (Then p within more) = if nat_lt depth p.node.depth then Then p within (young depth more) else Nothing
+
+-- the trees behind those
+abbrev pub old : ℕ → Forest → Forest
+old depth Nothing = Nothing
+old depth (Then p within more) = if nat_lt depth p.node.depth then old depth more else Then p within more
+
+-- the trees of parts in preorder, from the last to the first: a part takes in the deeper trees that follow it
+abbrev pub forest : List Part → Forest
+forest [] = Nothing
+forest (p ∷ ps) = let more = forest ps in Then p (young p.node.depth more) (old p.node.depth more)
+
+-- ---- what a leaf is
+
+-- without a file name, and not told to be an attachment
+abbrev pub is_inline : PartNode → Bool
+is_inline n = length n.name == 0 && not n.attach
+
+abbrev pub is_text : PartNode → Bool
+is_text n = n.leaf && is_kind (codes "text") (codes "plain") n.kind && is_inline n
+
+-- a text of any type
+abbrev pub is_any_text : PartNode → Bool
+is_any_text n = bytes_eq n.kind.top (codes "text") && is_inline n
+
+-- whether a text that is shown is among some trees
+abbrev pub shows_text : Forest → Bool
+shows_text Nothing = false
+shows_text (Then p within more) = is_text p.node || shows_text within || shows_text more
+
+-- what is kept of a mail: parts that are shown as texts, and parts that are files
+pub data Kept : Type 0 where
+  Text : (part : Part) → Kept
+  File : (part : Part) → Kept
+
+-- each leaf is a text or a file
+abbrev pub leaf_of : Part → Option Kept
+leaf_of p = if not p.node.leaf then None else if is_text p.node then Some (Text p) else Some (File p)
+
+-- beside an alternative that is chosen, texts of every type are dropped
+abbrev pub leaf_beside : Part → Option Kept
+leaf_beside p = if not p.node.leaf || is_any_text p.node then None else Some (File p)
+
+-- ---- which alternative is chosen
+
+-- whether a part that shows a text, or shows none, is kept whole
+abbrev pub is_whole : Way → Bool → Bool
+is_whole Together shows = true
+is_whole Choice shows = shows
+is_whole Beside shows = false
+
+-- the way of the parts that follow it
+abbrev pub way_behind : Way → Bool → Way
+way_behind Choice shows = if shows then Beside else Choice
+way_behind way shows = way
+
+abbrev pub is_alternative : Kind → Bool
+is_alternative kind = is_kind (codes "multipart") (codes "alternative") kind
+
+-- the way of the parts in it, which show a text or show none: of alternatives one is chosen where one shows a text
+abbrev pub way_within : Bool → Kind → Bool → Way
+way_within whole kind shows = if not whole then Beside else if is_alternative kind && shows then Choice else Together
+
+-- what is kept of a part itself
+abbrev pub own : Bool → Part → Option Kept
+own whole p = if whole then leaf_of p else leaf_beside p
+
+-- what is kept of trees that stand in a way
+abbrev pub kept : Way → Forest → List Kept
+kept way Nothing = []
+kept way (Then p within more) =
+    let below = shows_text within in
+    let shows = is_text p.node || below in
+    let whole = is_whole way shows in
+    cons_option (own whole p) (kept (way_within whole p.node.kind below) within ++ kept (way_behind way shows) more)
+
+-- what is kept of a mail
+abbrev pub kept_of : List Part → List Kept
+kept_of parts = kept Together (forest parts)
+
+-- ---- the text
+
+-- the text of a part in its charset, without soft line breaks (RFC 3676) and without a signature
+abbrev pub text_in : Part → List ℕ
+text_in p =
+    let text = to_text (charset_of (param p.node.kind (codes "charset"))) p.content in
+    user_text (if same_name (param p.node.kind (codes "format")) (codes "flowed")
+    then unflow text (same_name (param p.node.kind (codes "delsp")) (codes "yes")) else text)
+
+abbrev pub text_of : Kept → Option (List ℕ)
+text_of (Text p) = Some (text_in p)
+text_of (File p) = None
+
+abbrev pub file_of : Kept → Option Part
+file_of (Text p) = None
+file_of (File p) = Some p
+
+-- the text that a mail shows: its texts with an LF (10) between each two
+abbrev pub shown : List Part → List ℕ
+shown parts = join_with_byte 10 (filter_map text_of (kept_of parts))
+
+-- the parts that are files
+abbrev pub files : List Part → List Part
+files parts = filter_map file_of (kept_of parts)
