@@ -1,3 +1,4 @@
+pub mod AboveLemmas
 pub mod EndLemmas
 pub mod LineTexts
 pub mod WrittenLemmas

@@ -1,6 +1,6 @@
 //! The text above a signature.
-ghost use Rattle.std.specs.Prelude.{◌≡◌, IfOk, map, not, take_while};
-ghost use Rattle.flowed_text.specs.Flowed.{is_signature, line_texts, user_text};
+ghost use Rattle.std.specs.Prelude.{◌≡◌, ◌∷◌, ◌++◌, IfOk, OnOk, if◌then◌else◌, string_bytes};
+ghost use Rattle.flowed_text.specs.Flowed.{is_signature, user_text};
 
 use kit::{Memory, Text};
 use std::alloc::Global;
@@ -12,14 +12,14 @@ pub fn is_signature(line: &str) -> bool
     line == "-- "
 }
 
-fn lines_above(alloc: Global, text: &str) -> Result<Vec<&str>, Memory>
-    ensures { IfOk result (λ lines. map (λ l. l.now) lines.items ≡ take_while (λ l. not (is_signature l)) (line_texts text.now)) }
+/// Adds a line, behind an LF if another one stands before it.
+fn push_line(above: &mut String, first: bool, line: &str) -> Result<(), Memory>
+    ensures { OnOk result (string_bytes above.new ≡ string_bytes above.old ++ (if first then line.now else 10 ∷ line.now)) }
 {
-    Ok(
-        text.lines()
-            .take_while(|line| !is_signature(line))
-            .collect(alloc)?,
-    )
+    if !first {
+        above.push('\n')?;
+    }
+    Ok(above.push_str(line)?)
 }
 
 /// The lines of a text before the first that is exactly `-- `, or all where none is, joined by LF (RFC
@@ -28,6 +28,14 @@ fn lines_above(alloc: Global, text: &str) -> Result<Vec<&str>, Memory>
 pub fn user_text(alloc: Global, text: &Text) -> Result<Text, Memory>
     ensures { IfOk result (λ above. above ≡ user_text text.now) }
 {
-    let lines = lines_above(alloc, text.as_str())?;
-    Ok(Text::from(lines.join(alloc, "\n")?))
+    let mut above = String::new(alloc);
+    let mut first = true;
+    for line in text.as_str().lines() {
+        if is_signature(line) {
+            break;
+        }
+        push_line(&mut above, first, line)?;
+        first = false;
+    }
+    Ok(Text::from(above))
 }
