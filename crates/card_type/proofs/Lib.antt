@@ -1,6 +1,5 @@
 -- Lemmas of this crate, and rows that compute.
 pub mod KeyBytes
-pub mod Maps
 pub mod Orders
 pub mod Weights
 pub mod WorkedCards

@@ -160,8 +160,8 @@ order_single = refl
 order_thread : key_cmp (Thread (codes "a")) (Group (codes "abcdefghijk")) ≡ Greater
 order_thread = refl
 
-order_front : key_cmp (Thread (codes "a@x.org")) (Thread (codes "a@x.or")) ≡ Greater
-order_front = refl
+order_prefix : key_cmp (Thread (codes "a@x.org")) (Thread (codes "a@x.or")) ≡ Greater
+order_prefix = refl
 
 order_same : key_cmp (Single bob) (Single bob) ≡ Equal
 order_same = refl

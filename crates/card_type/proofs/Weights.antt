@@ -8,17 +8,17 @@ use Rattle.card_type.specs.Records.{capped}
 capped-add : (a s t : ℕ) → capped s ≡ capped t → capped (capped a + s) ≡ capped (a + t)
 capped-add a s t same = grind (arith, same)
 
--- the weight of pieces, each weighed alone
-pub capped_sum : (pieces : List (List ℕ)) → capped (sum (map (λ piece. capped (length piece)) pieces)) ≡ capped (length (concat pieces))
+-- the weight of blocks, each weighed alone
+pub capped_sum : (blocks : List (List ℕ)) → capped (sum (map (λ block. capped (length block)) blocks)) ≡ capped (length (concat blocks))
 capped_sum [] = refl
 capped_sum (p ∷ ps) =
-    ap capped (sum_by-cons (λ x. x) (capped (length p)) (map (λ piece. capped (length piece)) ps))
-    ∙ capped-add (length p) (sum (map (λ piece. capped (length piece)) ps)) (length (concat ps)) (capped_sum ps)
+    ap capped (sum_by-cons (λ x. x) (capped (length p)) (map (λ block. capped (length block)) ps))
+    ∙ capped-add (length p) (sum (map (λ block. capped (length block)) ps)) (length (concat ps)) (capped_sum ps)
     ∙ ap capped (sym (length-append p (concat ps)))
 
 -- the weight of three parts, each weighed alone
 pub capped_parts : (e r s : List (List ℕ)) → capped (capped (capped (length (concat e)) + capped (length (concat r))) + capped (length (concat s))) ≡ capped (length (concat (e ++ r ++ s)))
 capped_parts e r s =
-    let front = ap length (concat-append e r) ∙ length-append (concat e) (concat r) in
+    let first = ap length (concat-append e r) ∙ length-append (concat e) (concat r) in
     let whole = ap length (concat-append (e ++ r) s) ∙ length-append (concat (e ++ r)) (concat s) in
-    grind (arith, front, whole)
+    grind (arith, first, whole)

@@ -28,7 +28,7 @@ at hour minute = 1714521600 + hour * 3600 + minute * 60
 abbrev pub file : List ℕ → List ℕ → ℕ → Attachment
 file kind name size = record { kind = kind; name = name; size = size }
 
--- ---- a chat with Bob: a mail, a second copy of it, edits, and what a stranger asks for
+-- ---- a chat with Bob: a mail, a second copy of it, edits, and what a stranger requests
 
 abbrev pub M1 : Card
 M1 = record (card_of (codes "m1@x.org") bob) { from_name = codes "Bob"; to = me ∷ []; date = Some (at 10 0); chat = true; text = codes "Hi" }

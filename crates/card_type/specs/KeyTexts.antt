@@ -7,15 +7,15 @@ use Rattle.card_type.specs.Keys.{key_bytes}
 use Rattle.card_type.specs.declared.key.ChatKey.{ChatKey}
 use Rattle.card_type.specs.declared.key.ChatKey.TheVariants.{SelfChat, Single, Group, Thread}
 
-abbrev pub key_front : ChatKey → List ℕ
-key_front SelfChat = codes "self"
-key_front (Single a) = codes "single:"
-key_front (Group g) = codes "group:"
-key_front (Thread i) = codes "thread:"
+abbrev pub key_prefix : ChatKey → List ℕ
+key_prefix SelfChat = codes "self"
+key_prefix (Single a) = codes "single:"
+key_prefix (Group g) = codes "group:"
+key_prefix (Thread i) = codes "thread:"
 
 -- the text of a key: what it is, and then its bytes
 abbrev pub key_text : ChatKey → List ℕ
-key_text k = key_front k ++ key_bytes k
+key_text k = key_prefix k ++ key_bytes k
 
 -- whether the bytes of a key are what its variant holds, as those of each value of `ChatKey` are
 abbrev pub is_key : ChatKey → Bool

@@ -1,10 +1,12 @@
+-- What public clauses cite.
 pub mod Groups
 pub mod Cards
-pub mod CardParts
 pub mod Kinds
 pub mod Effects
 pub mod Keys
+pub mod KeyTexts
 pub mod Spots
 pub mod Records
 pub mod Rules
-pub mod KeyTexts
+-- What only proofs and private functions use.
+pub mod CardParts

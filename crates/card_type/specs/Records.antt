@@ -23,16 +23,16 @@ abbrev pub flag : Bool → List ℕ
 flag false = b8 0
 flag true = b8 1
 
--- bytes, behind their number
+-- bytes, after their number
 abbrev pub block : List ℕ → List ℕ
 block bytes = b32 (length bytes) ++ bytes
 
--- a value that may be missing, behind a byte that says whether it stands
+-- a value that may be missing, after a byte that says whether it is present
 abbrev pub opt : {T : Type 0} → (T → List ℕ) → Option T → List ℕ
 opt spell None = b8 0
 opt spell (Some x) = b8 1 ++ spell x
 
--- values, behind their number
+-- values, after their number
 abbrev pub list : {T : Type 0} → (T → List ℕ) → List T → List ℕ
 list spell xs = b32 (length xs) ++ flat_map spell xs
 
@@ -47,7 +47,7 @@ payload Hidden = b8 2
 abbrev pub update : Update → List ℕ
 update u = payload u.payload ++ opt block u.info ++ opt block u.document ++ opt block u.summary
 
--- the fields of a card: who wrote to whom, what a chat mail asks for, and what is shown or told
+-- the fields of a card: who wrote to whom, what a chat mail requests, and what is shown or said to other programs
 abbrev pub envelope : Card → List (List ℕ)
 envelope c =
     block c.id ∷ block c.from ∷ block c.from_name ∷ list block c.to ∷ list block c.cc ∷ opt b64 c.date
@@ -70,6 +70,6 @@ record_of c = concat (envelope c ++ requests c ++ shown c)
 abbrev pub weight : Card → ℕ
 weight c = length (record_of c)
 
--- a number as 64 bits hold it: the greatest that they hold stands for all above it
+-- a number in 64 bits: the greatest that they hold is taken for all above it
 abbrev pub capped : ℕ → ℕ
 capped n = min n (2 ^ 64 - 1)

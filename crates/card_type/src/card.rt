@@ -4,8 +4,8 @@ ghost use Rattle.std.proofs.Common.{rules};
 ghost use Rattle.card_type.specs.Cards.{card_of};
 
 use crate::group_id::GroupId;
-use crate::items::{Exact, Items};
 use kit::{Addr, Id, Memory, Text};
+use lists::{Exact, Items};
 use std::alloc::Global;
 
 /// A part of a mail that is kept as a file: what it is, and not what it holds.
@@ -15,7 +15,7 @@ pub struct Attachment {
     pub kind: Text,
     /// The name of the file, empty where it has none.
     pub name: Text,
-    /// The number of bytes that its content has when it is decoded; a multipart that was not opened is counted as it stands.
+    /// The number of bytes of its decoded content; of a multipart that was not opened, of its undecoded content.
     pub size: u64,
 }
 
@@ -24,7 +24,7 @@ impl Exact for Attachment {
 }
 
 impl Attachment {
-    /// A copy of the attachment. Takes memory, and is `Err` only where there is none.
+    /// A copy of the attachment. Takes memory; `Err` only when it runs out.
     pub fn copy(&self) -> Result<Self, Memory>
         ensures { IfOk result (λ copy. copy ≡ self.now) }
     {
@@ -32,7 +32,7 @@ impl Attachment {
     }
 }
 
-/// What a status update hands to the app.
+/// What a status update gives to the app.
 #[derive(Clone, Debug, PartialEq, Eq, Drop)]
 pub enum Payload {
     /// Nothing.
@@ -50,7 +50,7 @@ impl Exact for Payload {
 /// A status update of an app.
 #[derive(Clone, Debug, PartialEq, Eq, Drop)]
 pub struct Update {
-    /// What the app is handed.
+    /// What the app is given.
     pub payload: Payload,
     /// A line to be shown in the chat.
     pub info: Option<Text>,
@@ -65,7 +65,7 @@ impl Exact for Update {
 }
 
 impl Update {
-    /// A copy of the update. Takes memory, and is `Err` only where there is none.
+    /// A copy of the update. Takes memory; `Err` only when it runs out.
     pub fn copy(&self) -> Result<Self, Memory>
         ensures { IfOk result (λ copy. copy ≡ self.now) }
     {
@@ -73,7 +73,7 @@ impl Update {
     }
 }
 
-/// What is kept of a mail. Any values of its fields are a card; `is_valid` tells those that keep the rules
+/// What is kept of a mail. Any values of its fields are a card; `is_valid` holds of those that keep the rules
 /// of a card.
 #[derive(Debug, PartialEq, Eq, Drop)]
 pub struct Card {

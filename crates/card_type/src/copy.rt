@@ -4,11 +4,11 @@ ghost use Rattle.card_type.specs.CardParts.{envelope_of, requests_of, shown_of, 
 
 use crate::card::{Attachment, Card, Update};
 use crate::group_id::GroupId;
-use crate::items::{Items, copy_option};
 use kit::{Addr, Id, Memory, Text};
+use lists::{Items, copy_option};
 
-// A card is copied in three parts: what a copy would have to give back where memory ends grows with each
-// field, and so does its proof.
+// A card is copied in three parts: what a copy has to give back when memory runs out grows with each field,
+// and so does its proof.
 
 /// Who wrote to whom, in answer to what.
 #[derive(Drop)]
@@ -22,7 +22,7 @@ struct Envelope {
     references: Items<Id>,
 }
 
-/// What a mail of a chat asks for.
+/// What a mail of a chat requests.
 #[derive(Drop)]
 struct Requests {
     group: Option<GroupId>,
@@ -33,7 +33,7 @@ struct Requests {
     deletes: Items<Id>,
 }
 
-/// What is shown, and what is told to others.
+/// What is shown, and what is said to other programs.
 #[derive(Drop)]
 struct Shown {
     subject: Text,
@@ -115,7 +115,7 @@ fn joined(envelope: Envelope, requests: Requests, shown: Shown, card: &Card) -> 
 }
 
 impl Card {
-    /// A copy of the card. Takes memory, and is `Err` only where there is none.
+    /// A copy of the card. Takes memory; `Err` only when it runs out.
     pub fn copy(&self) -> Result<Self, Memory>
         ensures { IfOk result (λ copy. copy ≡ self.now) }
     {

@@ -5,9 +5,9 @@ ghost use Rattle.card_type.specs.Effects.{is_among, names_by, names, has_person,
 ghost use Rattle.card_type.specs.Kinds.{is_content, kind_of};
 
 use crate::card::Card;
-use crate::items::Items;
 use crate::kind::{Kind, kind_of};
 use kit::{Addr, Id};
+use lists::Items;
 
 /// What a mail does to a mail of kind Content that it names.
 #[derive(Clone, Copy, Debug, PartialEq, Eq)]
@@ -16,7 +16,7 @@ pub enum Effect {
     Edit,
     /// It takes it back.
     Delete,
-    /// It tells that it was read.
+    /// It says that it was read.
     Read,
     /// It brings updates to its app.
     Update,
@@ -52,7 +52,7 @@ fn has_addr(addrs: &Items<Addr>, addr: &Addr) -> bool
     addrs.as_slice().contains(addr)
 }
 
-/// Whether an id is among those that a card names, which its kind tells.
+/// Whether an id is among those that a card of this kind names.
 fn names(card: &Card, kind: Kind, id: &Id) -> bool
     ensures { result ≡ is_among (names_by kind card.now) id.now }
 {

@@ -5,15 +5,15 @@ ghost use Rattle.std.proofs.Common.{rules};
 ghost use Rattle.kit.specs.Reading.{read_as};
 ghost use Rattle.card_type.specs.Groups.{is_group, is_group_byte};
 
-use crate::items::Exact;
 use kit::{Bytes, Memory};
+use lists::Exact;
 use std::alloc::Global;
 use std::marker::Model;
 
 /// No group id is shorter, so that ids that are drawn by chance differ.
-const SHORTEST: usize = 11;
+const MIN_LEN: usize = 11;
 /// No group id is longer than a line may be (RFC 5322, section 2.1.1).
-const LONGEST: usize = 998;
+const MAX_LEN: usize = 998;
 
 /// The id of a group: 11 to 998 bytes, each an ASCII letter, a digit, `_` or `-`. Compared byte by byte,
 /// so the case of letters counts.
@@ -48,12 +48,12 @@ fn are_group_bytes(bytes: &[u8]) -> bool
 pub fn valid_group(bytes: &[u8]) -> bool
     ensures { result ≡ is_group bytes.now }
 {
-    SHORTEST <= bytes.len() && bytes.len() <= LONGEST && are_group_bytes(bytes)
+    MIN_LEN <= bytes.len() && bytes.len() <= MAX_LEN && are_group_bytes(bytes)
 }
 
 impl GroupId {
-    /// The bytes as a group id: `None` exactly where they are no valid one. Takes memory for an id, and
-    /// is `Err` only where there is none left.
+    /// The bytes as a group id: `None` exactly where they are no valid one. Takes memory
+    /// for an id; `Err` only when it runs out.
     pub fn read(alloc: Global, bytes: &[u8]) -> Result<Option<Self>, Memory>
         ensures { IfOk result (λ read. read ≡ read_as is_group bytes.now) }
     {
@@ -72,7 +72,7 @@ impl GroupId {
         self.bytes.bytes()
     }
 
-    /// A copy of the id. Takes memory, and is `Err` only where there is none.
+    /// A copy of the id. Takes memory; `Err` only when it runs out.
     pub fn copy(&self) -> Result<Self, Memory>
         ensures { IfOk result (λ copy. copy ≡ self.now) }
     {

@@ -8,12 +8,12 @@ ghost use Rattle.std.proofs.Common.{rules};
 ghost use Rattle.card_type.specs.Keys.{key_rank, key_bytes, key_eq, key_cmp};
 
 use crate::group_id::GroupId;
-use crate::items::Exact;
 use kit::{Addr, Id, Memory};
+use lists::Exact;
 use std::cmp::Ordering;
 
-/// The key of a chat. Keys are ordered as their variants stand here, and keys of one variant by their
-/// bytes, a proper prefix first.
+/// The key of a chat. Keys are ordered as their variants here, and keys of one variant by their bytes, a
+/// proper prefix first.
 #[derive(Clone, Debug, Drop)]
 pub enum ChatKey {
     /// The chat with oneself.
@@ -31,7 +31,7 @@ impl Exact for ChatKey {
 }
 
 impl ChatKey {
-    /// A copy of the key. Takes memory, and is `Err` only where there is none.
+    /// A copy of the key. Takes memory; `Err` only when it runs out.
     pub fn copy(&self) -> Result<Self, Memory>
         ensures { IfOk result (λ copy. copy ≡ self.now) }
     {
@@ -49,7 +49,7 @@ impl ChatKey {
         }
     }
 
-    /// The bytes behind the front of its text, of which `SelfChat` has none.
+    /// The bytes after the prefix of its text, of which `SelfChat` has none.
     pub(crate) fn bytes(&self) -> &[u8]
         ensures same { result.now ≡ key_bytes self.now }
         ensures utf8 { IsUtf8 (key_bytes self.now) }

@@ -41,8 +41,8 @@ impl<V: Drop> KeyMap<V> {
         self.values.get(key)
     }
 
-    /// Gives a key a value, and hands back the value that it had. Takes memory, and is `Err` only where there
-    /// is none; then the map is as before.
+    /// Gives a key a value, and returns the value that it had. Takes memory; `Err` only when it runs out, and
+    /// then the map is as before.
     pub fn insert(&mut self, key: ChatKey, value: V) -> Result<Option<V>, Memory>
         ensures before { IfOk result (λ before. before ≡ map.get self.old key) }
         ensures ok { OnOk result (self.new ≡ map.insert self.old key value) }

@@ -5,11 +5,11 @@ ghost use Rattle.std.specs.List.{list_any};
 ghost use Rattle.kit.specs.Addresses.{is_addr};
 ghost use Rattle.kit.specs.Reading.{read_as};
 ghost use Rattle.card_type.specs.declared.key.ChatKey.{ChatKey as Key};
-ghost use Rattle.card_type.specs.KeyTexts.{key_front, key_text, is_key};
+ghost use Rattle.card_type.specs.KeyTexts.{key_prefix, key_text, is_key};
 
 use crate::group_id::GroupId;
 use crate::key::ChatKey;
-use kit::{Addr, Id, Memory, Text, behind};
+use kit::{Addr, Id, Memory, Text, strip_prefix};
 use std::alloc::Global;
 use std::str;
 
@@ -19,7 +19,7 @@ fn has_capital(bytes: &[u8]) -> bool
     bytes.iter().any(|b| b.is_ascii_uppercase())
 }
 
-/// The bytes as an address where they are one as they stand: reading alone would make letters small.
+/// The bytes as an address, where they are one without a change: `Addr::read` makes letters small.
 fn read_addr(alloc: Global, bytes: &[u8]) -> Result<Option<Addr>, Memory>
     ensures { IfOk result (λ read. read ≡ read_as is_addr bytes.now) }
 {
@@ -30,8 +30,8 @@ fn read_addr(alloc: Global, bytes: &[u8]) -> Result<Option<Addr>, Memory>
 }
 
 impl ChatKey {
-    fn front(&self) -> &str
-        ensures { result.now ≡ key_front self.now }
+    fn prefix(&self) -> &str
+        ensures { result.now ≡ key_prefix self.now }
     {
         match self {
             ChatKey::SelfChat => "self",
@@ -42,17 +42,17 @@ impl ChatKey {
     }
 
     /// The text of the key: `self`, `single:` and the address, `group:` and the id, or `thread:` and the id.
-    /// Takes memory, and is `Err` only where there is none.
+    /// Takes memory; `Err` only when it runs out.
     pub fn text(&self, alloc: Global) -> Result<Text, Memory>
         ensures { IfOk result (λ text. text ≡ key_text self.now) }
     {
-        let mut text = String::from_str(alloc, self.front())?;
+        let mut text = String::from_str(alloc, self.prefix())?;
         text.push_str(str::from_utf8(self.bytes()).unwrap())?;
         Ok(Text::from(text))
     }
 
-    /// The key of which the bytes are the text: `None` exactly where they are the text of no key. Takes memory,
-    /// and is `Err` only where there is none.
+    /// The key of which the bytes are the text: `None` exactly where they are the text of no key. Takes memory;
+    /// `Err` only when it runs out.
     pub fn read(alloc: Global, bytes: &[u8]) -> Result<Option<Self>, Memory>
         ensures text { IfOk result (λ read. IfSome read (λ key. key_text key ≡ bytes.now)) }
         ensures back { IfOk result (λ read. (key : Key) → IsTrue (is_key key) → key_text key ≡ bytes.now → read ≡ Some key) }
@@ -61,13 +61,13 @@ impl ChatKey {
         if bytes == b"self".as_slice() {
             return Ok(Some(ChatKey::SelfChat));
         }
-        if let Some(rest) = behind(b"single:", bytes) {
+        if let Some(rest) = strip_prefix(bytes, b"single:") {
             return Ok(read_addr(alloc, rest)?.map(ChatKey::Single));
         }
-        if let Some(rest) = behind(b"group:", bytes) {
+        if let Some(rest) = strip_prefix(bytes, b"group:") {
             return Ok(GroupId::read(alloc, rest)?.map(ChatKey::Group));
         }
-        if let Some(rest) = behind(b"thread:", bytes) {
+        if let Some(rest) = strip_prefix(bytes, b"thread:") {
             return Ok(Id::read(alloc, rest)?.map(ChatKey::Thread));
         }
         Ok(None)

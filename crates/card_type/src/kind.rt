@@ -7,7 +7,7 @@ use crate::card::Card;
 /// What a mail is for. A mail that would be of several kinds is of the first of them.
 #[derive(Clone, Copy, Debug, PartialEq, Eq)]
 pub enum Kind {
-    /// It tells that a mail was read.
+    /// It says that a mail was read.
     Receipt,
     /// It takes mails back.
     Delete,
@@ -19,8 +19,8 @@ pub enum Kind {
     Content,
 }
 
-/// The kind of a card: the first that applies of Receipt (`receipt` stands), Delete (`deletes` is not
-/// empty), Edit (`edit` stands), Update (`updates` is not empty and `app` is false) and Content. Takes
+/// The kind of a card: the first that applies of Receipt (`receipt` is present), Delete (`deletes` is not
+/// empty), Edit (`edit` is present), Update (`updates` is not empty and `app` is false) and Content. Takes
 /// no memory.
 pub fn kind_of(card: &Card) -> Kind
     ensures { result ≡ kind_of card.now }

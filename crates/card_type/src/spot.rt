@@ -6,8 +6,8 @@ ghost use Rattle.std.specs.Ordering.{as_partial_cmp};
 ghost use Rattle.std.proofs.Common.{rules};
 ghost use Rattle.card_type.specs.Spots.{spot_cmp, spot_eq};
 
-use crate::items::Exact;
 use kit::{Id, Memory};
+use lists::Exact;
 use std::cmp::Ordering;
 
 /// The place of a mail in mail order. Spots are ordered as mails are: by date, then by id, byte by byte
@@ -27,7 +27,7 @@ impl Exact for Spot {
 }
 
 impl Spot {
-    /// A copy of the spot. Takes memory, and is `Err` only where there is none.
+    /// A copy of the spot. Takes memory; `Err` only when it runs out.
     pub fn copy(&self) -> Result<Self, Memory>
         ensures { IfOk result (λ copy. copy ≡ self.now) }
     {

@@ -1,14 +1,15 @@
 -- Lemmas on the rules that a card keeps, and on what a mail is answered.
-use Rattle.std.proofs.Common.{inr, ◌≡◌, ◌≤◌, ℕ, Bool, true, false, List, length, refl}
+use Rattle.std.proofs.Common.{inr, ◌≡◌, ◌≤◌, ℕ, Bool, true, false, List, [], ◌∷◌, length, refl}
 use Rattle.std.specs.Prelude.{◌&&◌, ◌==◌, ◌⊎◌, drop, IfErr, IfOk, IfSome, IsTrue, Option, Some, None, Result, Ok, Err, nat_le}
 use Rattle.std.specs.List.{list_all}
-use Rattle.std.proofs.lemmas.Bool.{le-leb}
-use Rattle.kit.specs.Distinct.{are_distinct}
+use Rattle.std.proofs.lemmas.Bool.{and_parts, le-leb}
+use Rattle.lists.specs.Distinct.{are_distinct}
 use Rattle.kit.specs.Moments.{last_moment}
 use Rattle.mail_address.specs.declared.person.Person.{Person}
 use Rattle.mail_headers.specs.Headers.{Head}
 use Rattle.card_type.specs.declared.card.Card.{Card}
-use Rattle.card_type.specs.Rules.{is_light, is_update, keeps_bounds, where_some}
+use Rattle.card_type.specs.declared.card.Update.{Update}
+use Rattle.card_type.specs.Rules.{fits_weight, is_nonempty_update, is_update, is_utf8_update, keeps_bounds, where_some}
 use Rattle.chat_card.specs.Cards.{accepted, card_from, card_with}
 use Rattle.chat_card.specs.Envelope.{sender}
 
@@ -24,9 +25,16 @@ is_moment : (date : Option ℕ) → IfSome date (λ d. d ≤ last_moment) → wh
 is_moment None h = refl
 is_moment (Some d) h = le-leb d last_moment h
 
+-- of updates that keep their rule no payload is empty
+nonempty : (us : List Update) → list_all is_update us ≡ true → list_all is_nonempty_update us ≡ true
+nonempty [] h = refl
+nonempty (u ∷ us) h =
+    let both = and_parts (is_update u) (list_all is_update us) h in
+    rw ((and_parts (is_utf8_update u) (is_nonempty_update u) both.0).1, nonempty us both.1) refl
+
 pub bounds-kept : (c : Card) → IfSome c.date (λ d. d ≤ last_moment) → length c.text ≤ 32768 → IsTrue (list_all is_update c.updates)
-    → are_distinct c.to ≡ true → are_distinct c.cc ≡ true → keeps_bounds c ≡ is_light c
-bounds-kept c date room updates to cc = kept (is_light c) _ _ _ _ _ (is_moment c.date date) (le-leb (length c.text) 32768 room) updates to cc
+    → are_distinct c.to ≡ true → are_distinct c.cc ≡ true → keeps_bounds c ≡ fits_weight c
+bounds-kept c date room updates to cc = kept (fits_weight c) _ _ _ _ _ (is_moment c.date date) (le-leb (length c.text) 32768 room) (nonempty c.updates updates) to cc
 
 -- ---- answers
 

@@ -37,8 +37,8 @@ found-none test xs none = decided (nat_lt (position_or_len test xs) (length xs))
     decided true is some = absurd cc
     decided false is some = find_at test xs ∙ slice_get_past xs (position_or_len test xs) (ltb-false (position_or_len test xs) (length xs) is)
 
-found-place : {A : Type 0} (test : A → Bool) (xs : List A) (at : ℕ) → position test xs ≡ Some at → position_or_len test xs ≡ at
-found-place test xs at = decided (nat_lt (position_or_len test xs) (length xs))
+found-index : {A : Type 0} (test : A → Bool) (xs : List A) (at : ℕ) → position test xs ≡ Some at → position_or_len test xs ≡ at
+found-index test xs at = decided (nat_lt (position_or_len test xs) (length xs))
   where
     decided : (t : Bool) → cond t (Some (position_or_len test xs)) None ≡ Some at → position_or_len test xs ≡ at
     decided true some = cc
@@ -50,30 +50,30 @@ files_of files = map (λ f. f.now) files
 named-map : (files : List (Bor Part)) (r : Option ℕ) → r ≡ position (λ f. is_update_file f.now) files → position is_update_file (files_of files) ≡ r
 named-map files r is = position-map (λ (f : Bor Part). f.now) is_update_file files ∙ sym is
 
-pub place-none : (files : List (Bor Part)) (r : Option ℕ) → list_any (λ f. is_app f.now) files ≡ false → r ≡ position (λ f. is_update_file f.now) files
+pub index-none : (files : List (Bor Part)) (r : Option ℕ) → list_any (λ f. is_app f.now) files ≡ false → r ≡ position (λ f. is_update_file f.now) files
     → IfNone r (update_file (files_of files) ≡ None)
-place-none files (Some at) no_app is = tt
-place-none files None no_app is = rw (any-map (λ (f : Bor Part). f.now) is_app files, no_app) (found-none is_update_file (files_of files) (named-map files None is))
+index-none files (Some at) no_app is = tt
+index-none files None no_app is = rw (any-map (λ (f : Bor Part). f.now) is_app files, no_app) (found-none is_update_file (files_of files) (named-map files None is))
 
-pub place-file : (files : List (Bor Part)) (r : Option ℕ) → list_any (λ f. is_app f.now) files ≡ false → r ≡ position (λ f. is_update_file f.now) files
+pub index-file : (files : List (Bor Part)) (r : Option ℕ) → list_any (λ f. is_app f.now) files ≡ false → r ≡ position (λ f. is_update_file f.now) files
     → IfSome r (λ at. update_file (files_of files) ≡ option_map (λ f. f.now) (slice_get files at))
-place-file files None no_app is = tt
-place-file files (Some at) no_app is =
+index-file files None no_app is = tt
+index-file files (Some at) no_app is =
     rw (any-map (λ (f : Bor Part). f.now) is_app files, no_app)
     (find_at is_update_file (files_of files)
-    ∙ ap (slice_get (files_of files)) (found-place is_update_file (files_of files) at (named-map files (Some at) is))
+    ∙ ap (slice_get (files_of files)) (found-index is_update_file (files_of files) at (named-map files (Some at) is))
     ∙ slice_get-map (λ (f : Bor Part). f.now) files at)
 
-pub place-others : (files : List (Bor Part)) (r : Option ℕ) → r ≡ position (λ f. is_update_file f.now) files
+pub index-others : (files : List (Bor Part)) (r : Option ℕ) → r ≡ position (λ f. is_update_file f.now) files
     → IfSome r (λ at. other_files (files_of files) ≡ files_of (remove files at))
-place-others files None is = tt
-place-others files (Some at) is =
+index-others files None is = tt
+index-others files (Some at) is =
     let now : Bor Part → Part = λ f. f.now in
-    ap (λ n. take n (files_of files) ++ drop (n + 1) (files_of files)) (found-place is_update_file (files_of files) at (named-map files (Some at) is))
-    ∙ ap (λ (front : List Part). front ++ drop (at + 1) (files_of files)) (take-map now at files)
+    ap (λ n. take n (files_of files) ++ drop (n + 1) (files_of files)) (found-index is_update_file (files_of files) at (named-map files (Some at) is))
+    ∙ ap (λ (first : List Part). first ++ drop (at + 1) (files_of files)) (take-map now at files)
     ∙ ap (λ (rest : List Part). files_of (take at files) ++ rest) (drop-map now (at + 1) files)
     ∙ sym (map-append now (take at files) (drop (at + 1) files))
     ∙ ap (λ n. files_of (take at files ++ drop n files)) (add-one at)
 
-pub place-app : (files : List (Bor Part)) → list_any (λ f. is_app f.now) files ≡ true → update_file (files_of files) ≡ None
-place-app files app = rw (any-map (λ (f : Bor Part). f.now) is_app files, app) refl
+pub index-app : (files : List (Bor Part)) → list_any (λ f. is_app f.now) files ≡ true → update_file (files_of files) ≡ None
+index-app files app = rw (any-map (λ (f : Bor Part). f.now) is_app files, app) refl

@@ -1,4 +1,4 @@
--- The id of a mail that tells none is an id.
+-- The id of a mail without one is an id.
 use Rattle.std.proofs.Common.{◌≡◌, ◌≤◌, ◌<◌, ◌+◌, ◌%◌, ◌^◌, ◌∙◌, ℕ, true, [], ◌∷◌, ◌++◌, length, codes, refl, arith}
 use Rattle.std.specs.List.{list_all}
 use Rattle.std.specs.Fmt.{decimal}
@@ -20,8 +20,8 @@ decimal-id = decimal_by_steps (λ m ds. list_all is_id_byte ds ≡ true)
 
 pub stand_in_is_id : (uid : ℕ) → uid < 2 ^ 32 → is_id (stand_in_id uid) ≡ true
 stand_in_is_id uid small =
-    let front = codes "uid" ++ decimal uid in
+    let first = codes "uid" ++ decimal uid in
     let few = length-decimal-le 10 uid (omega arith) (omega (arith, small)) (omega (arith, small)) in
-    let long : length (stand_in_id uid) ≡ length (decimal uid) + 8 = length-append front (codes "@none") ∙ omega (arith, length-append (codes "uid") (decimal uid)) in
+    let long : length (stand_in_id uid) ≡ length (decimal uid) + 8 = length-append first (codes "@none") ∙ omega (arith, length-append (codes "uid") (decimal uid)) in
     let all : list_all is_id_byte (stand_in_id uid) ≡ true = rw (list_all-append is_id_byte (decimal uid) (codes "@none"), decimal-id uid (omega (arith, small))) refl in
     rw (le-leb 1 (length (stand_in_id uid)) (omega (arith, long)), le-leb (length (stand_in_id uid)) 998 (omega (arith, long, few)), all) refl

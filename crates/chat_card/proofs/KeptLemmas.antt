@@ -6,62 +6,62 @@ use Rattle.std.proofs.Math.Bool.{or_assoc}
 use Rattle.std.proofs.lemmas.Bool.{lt-ltb, ltb-true}
 use Rattle.std.proofs.lemmas.List.{append-nil, map-append, nil_from_length}
 use Rattle.std.proofs.lemmas.List.Sums.{take_while-cons}
-use Rattle.chat_card.specs.declared.kept.Kept as Borrowed
 use Rattle.chat_card.specs.declared.kept.Parent.{Parent}
-use Rattle.chat_card.specs.declared.kept.Way.TheVariants.{Together}
+use Rattle.chat_card.specs.declared.leaf.Kept as Borrowed
 use Rattle.chat_card.specs.declared.part.Part.{Part}
-use Rattle.chat_card.specs.Shown.{Forest, Nothing, Then, Kept, forest, is_text, is_whole, kept, old, own, shows_text, way_behind, way_within, young}
+use Rattle.chat_card.specs.declared.way.Way.TheVariants.{Together}
+use Rattle.chat_card.specs.Shown.{Forest, Nothing, Then, Kept, deeper, following, forest, is_text, shows_text}
 use Rattle.chat_card.specs.Views.{kept as view}
-use Rattle.chat_card.specs.Walks.{closed, entered, turned, way_of}
+use Rattle.chat_card.specs.Walks.{closed, entered, is_whole, kept_by, own, turned, way_after, way_of, way_within}
 
 -- ---- whether a text is among the parts that are deeper
 
 -- the trees deeper than one depth are those deeper than a greater one, and more
-shows-young : (low high : ℕ) → low ≤ high → (f : Forest) → shows_text (young low f) ≡ (shows_text (young high f) || shows_text (young low (old high f)))
-shows-young low high le Nothing = refl
-shows-young low high le (Then q within more) = decided (nat_lt high q.node.depth) refl (shows-young low high le more)
+shows-among : (low high : ℕ) → low ≤ high → (f : Forest) → shows_text (deeper low f) ≡ (shows_text (deeper high f) || shows_text (deeper low (following high f)))
+shows-among low high le Nothing = refl
+shows-among low high le (Then q within more) = decided (nat_lt high q.node.depth) refl (shows-among low high le more)
   where
     decided : (t : Bool) → nat_lt high q.node.depth ≡ t
-        → shows_text (young low more) ≡ (shows_text (young high more) || shows_text (young low (old high more)))
-        → shows_text (young low (Then q within more)) ≡ (shows_text (young high (Then q within more)) || shows_text (young low (old high (Then q within more))))
-    decided false is behind = rw is refl
-    decided true is behind =
-        (let deeper : nat_lt low q.node.depth ≡ true = lt-ltb low q.node.depth (omega (arith, ltb-true high q.node.depth is)) in
-        rw (is, deeper) (ap (λ b. is_text q.node || shows_text within || b) behind
-        ∙ sym (or_assoc (is_text q.node || shows_text within) (shows_text (young high more)) (shows_text (young low (old high more))))))
+        → shows_text (deeper low more) ≡ (shows_text (deeper high more) || shows_text (deeper low (following high more)))
+        → shows_text (deeper low (Then q within more)) ≡ (shows_text (deeper high (Then q within more)) || shows_text (deeper low (following high (Then q within more))))
+    decided false is rest = rw is refl
+    decided true is rest =
+        (let below : nat_lt low q.node.depth ≡ true = lt-ltb low q.node.depth (omega (arith, ltb-true high q.node.depth is)) in
+        rw (is, below) (ap (λ b. is_text q.node || shows_text within || b) rest
+        ∙ sym (or_assoc (is_text q.node || shows_text within) (shows_text (deeper high more)) (shows_text (deeper low (following high more))))))
 
-pub shows-deeper : (depth : ℕ) (ps : List Part) → shows_text (young depth (forest ps)) ≡ list_any (λ p. is_text p.node) (take_while (λ p. nat_lt depth p.node.depth) ps)
+pub shows-deeper : (depth : ℕ) (ps : List Part) → shows_text (deeper depth (forest ps)) ≡ list_any (λ p. is_text p.node) (take_while (λ p. nat_lt depth p.node.depth) ps)
 shows-deeper depth [] = refl
 shows-deeper depth (p ∷ ps) = decided (nat_lt depth p.node.depth) refl (shows-deeper depth ps)
   where
     decided : (t : Bool) → nat_lt depth p.node.depth ≡ t
-        → shows_text (young depth (forest ps)) ≡ list_any (λ p. is_text p.node) (take_while (λ p. nat_lt depth p.node.depth) ps)
-        → shows_text (young depth (forest (p ∷ ps))) ≡ list_any (λ p. is_text p.node) (take_while (λ p. nat_lt depth p.node.depth) (p ∷ ps))
-    decided false is behind = rw is refl
-    decided true is behind =
+        → shows_text (deeper depth (forest ps)) ≡ list_any (λ p. is_text p.node) (take_while (λ p. nat_lt depth p.node.depth) ps)
+        → shows_text (deeper depth (forest (p ∷ ps))) ≡ list_any (λ p. is_text p.node) (take_while (λ p. nat_lt depth p.node.depth) (p ∷ ps))
+    decided false is rest = rw is refl
+    decided true is rest =
         (let test = λ (q : Part). nat_lt depth q.node.depth in
         let less : depth ≤ p.node.depth = omega (arith, ltb-true depth p.node.depth is) in
         let taken : take_while test (p ∷ ps) ≡ p ∷ take_while test ps = take_while-cons test p ps ∙ rw is refl in
-        rw (taken, is) (or_assoc (is_text p.node) (shows_text (young p.node.depth (forest ps))) (shows_text (young depth (old p.node.depth (forest ps))))
-        ∙ ap (λ b. is_text p.node || b) (sym (shows-young depth p.node.depth less (forest ps)) ∙ behind)))
+        rw (taken, is) (or_assoc (is_text p.node) (shows_text (deeper p.node.depth (forest ps))) (shows_text (deeper depth (following p.node.depth (forest ps))))
+        ∙ ap (λ b. is_text p.node || b) (sym (shows-among depth p.node.depth less (forest ps)) ∙ rest)))
 
 -- ---- a step
 
 -- what is kept of the trees that follow, in the parents that are open
 abbrev pub spread : List Parent → Forest → List Kept
-spread [] f = kept Together f
-spread (p ∷ ps) f = kept p.way (young p.depth f) ++ spread ps (old p.depth f)
+spread [] f = kept_by Together f
+spread (p ∷ ps) f = kept_by p.way (deeper p.depth f) ++ spread ps (following p.depth f)
 
 cons_option-append : {A : Type 0} (o : Option A) (xs ys : List A) → cons_option o xs ++ ys ≡ cons_option o (xs ++ ys)
 cons_option-append None xs ys = refl
 cons_option-append (Some x) xs ys = refl
 
--- what is kept of a part and of what follows it, where these are the parents that it stands in
+-- what is kept of a part and of what follows it, where these are the parents that it is in
 abbrev pub first_kept : List Parent → Part → Bool → Forest → Forest → List Kept
 first_kept parents p below within more =
-    let shows = is_text p.node || below in
-    let whole = is_whole (way_of parents) shows in
-    cons_option (own whole p) (kept (way_within whole p.node.kind below) within ++ spread (turned shows parents) more)
+    let has_text = is_text p.node || below in
+    let whole = is_whole (way_of parents) has_text in
+    cons_option (own whole p) (kept_by (way_within whole p.node.kind below) within ++ spread (turned has_text parents) more)
 
 -- a part is read
 pub spread-step : (parents : List Parent) (p : Part) (within more : Forest)
@@ -72,13 +72,13 @@ spread-step (top ∷ parents) p within more = decided (nat_lt top.depth p.node.d
     decided : (t : Bool) → nat_lt top.depth p.node.depth ≡ t
         → spread parents (Then p within more) ≡ first_kept (closed p.node.depth parents) p (shows_text within) within more
         → spread (top ∷ parents) (Then p within more) ≡ first_kept (closed p.node.depth (top ∷ parents)) p (shows_text within) within more
-    decided false out behind = rw out behind
-    decided true in_it behind =
-        (let shows = is_text p.node || shows_text within in
-        let whole = is_whole top.way shows in
-        let inner = kept (way_within whole p.node.kind (shows_text within)) within in
-        let next = kept (way_behind top.way shows) (young top.depth more) in
-        let last = spread parents (old top.depth more) in
+    decided false out rest = rw out rest
+    decided true in_it rest =
+        (let has_text = is_text p.node || shows_text within in
+        let whole = is_whole top.way has_text in
+        let inner = kept_by (way_within whole p.node.kind (shows_text within)) within in
+        let next = kept_by (way_after top.way has_text) (deeper top.depth more) in
+        let last = spread parents (following top.depth more) in
         rw in_it (cons_option-append (own whole p) (inner ++ next) last ∙ ap (cons_option (own whole p)) (append_assoc inner next last)))
 
 -- the same, of parts in preorder
@@ -88,11 +88,11 @@ kept-step : (parents new : List Parent) (p : Part) (rest : List Part) (below who
     → new ≡ entered p.node below parents
     → spread parents (forest (p ∷ rest)) ≡ cons_option (own whole p) (spread new (forest rest))
 kept-step parents new p rest below whole shows is entering =
-    let within = young p.node.depth (forest rest) in
+    let within = deeper p.node.depth (forest rest) in
     let below_is : below ≡ shows_text within = shows ∙ sym (shows-deeper p.node.depth rest) in
-    spread-step parents p within (old p.node.depth (forest rest)) ∙ rw (← below_is, is, entering) refl
+    spread-step parents p within (following p.node.depth (forest rest)) ∙ rw (← below_is, is, entering) refl
 
--- what the part itself gives is put behind what was found
+-- what the part itself gives is put rest what was found
 kept-pushed : (found new : List Borrowed.Kept) (r : Option Borrowed.Kept) (own_of : Option Kept) (now next all : List Kept)
     → option_map view r ≡ own_of → new ≡ found ++ option_to_list r → now ≡ cons_option own_of next
     → map view found ++ now ≡ all → map view new ++ next ≡ all

@@ -1,5 +1,5 @@
--- The cards of the worked mails: each mail as it is sent, read by the definitions, gives the card that was written by hand from
--- the rules.
+-- The cards of the worked mails: each mail as it is sent, read by the definitions, gives the card that was written by
+-- hand from the rules.
 use Rattle.std.proofs.Common.{◌≡◌, ℕ, List, [], ◌∷◌, ◌++◌, codes, refl}
 use Rattle.std.specs.Prelude.{⊤, Ok, Err, map}
 use Rattle.std.specs.List.{concat}
@@ -126,7 +126,7 @@ earlier_receipt = refl
 
 -- ---- an app, and its updates
 
--- two parts: a text, and a file behind these fields
+-- two parts: a text, and a file after these fields
 abbrev with_file : (text : List ℕ) → (file : List (List ℕ)) → List (List ℕ)
 with_file text file = codes "--d" ∷ codes "Content-Type: text/plain" ∷ [] ∷ text ∷ codes "--d" ∷ file ++ codes "--d--" ∷ []
 

@@ -71,15 +71,15 @@ named : seen (codes "Content-Type: text/plain; name=a.txt\n\nHi\n") ≡ row [] (
 unfolding utf8_lossy utf8_valid_len utf8_error_len is_utf8 chars lib.Utf8.encode digits
 named = refl
 
-told_to_be_attached : seen (codes "Content-Disposition: attachment\n\nHi\n") ≡ row [] (file (codes "text/plain") [] 3 ∷ [])
+an_attachment_by_its_disposition : seen (codes "Content-Disposition: attachment\n\nHi\n") ≡ row [] (file (codes "text/plain") [] 3 ∷ [])
 unfolding utf8_lossy utf8_valid_len utf8_error_len is_utf8 chars lib.Utf8.encode digits
-told_to_be_attached = refl
+an_attachment_by_its_disposition = refl
 
 flowed : seen (codes "Content-Type: text/plain; Format=Flowed; delsp=YES\n\na \nb\n") ≡ row (codes "ab") []
 unfolding utf8_lossy utf8_valid_len utf8_error_len is_utf8 chars lib.Utf8.encode digits
 flowed = refl
 
--- lines that are not said to be flowed stay
+-- lines stay where no format is given
 fixed : seen (codes "Content-Type: text/plain; delsp=yes\n\na \nb\n") ≡ row (codes "a \nb") []
 unfolding utf8_lossy utf8_valid_len utf8_error_len is_utf8 chars lib.Utf8.encode digits
 fixed = refl
@@ -94,9 +94,9 @@ two_texts : seen (mixed (plain ∷ image ∷ codes "\nthere\n" ∷ [])) ≡ row 
 unfolding utf8_lossy utf8_valid_len utf8_error_len is_utf8 chars lib.Utf8.encode digits
 two_texts = refl
 
-html_behind_plain : seen (alternative (plain ∷ html ∷ [])) ≡ row (codes "Hi") []
+html_after_plain : seen (alternative (plain ∷ html ∷ [])) ≡ row (codes "Hi") []
 unfolding utf8_lossy utf8_valid_len utf8_error_len is_utf8 chars lib.Utf8.encode digits
-html_behind_plain = refl
+html_after_plain = refl
 
 html_before_plain : seen (alternative (html ∷ plain ∷ [])) ≡ row (codes "Hi") []
 unfolding utf8_lossy utf8_valid_len utf8_error_len is_utf8 chars lib.Utf8.encode digits
@@ -133,7 +133,7 @@ alternatives_in_an_alternative = refl
 
 -- ---- whole mails
 
--- a multipart that is not opened is a file, and is counted as it stands
+-- a multipart that is not opened is a file, and its size is that of its undecoded content
 encrypted : seen (codes "Subject: ...\nContent-Type: multipart/encrypted; boundary=\"e\"\n\n--e\nContent-Type: application/pgp-encrypted\n\nVersion: 1\n--e--\n")
     ≡ row [] (file (codes "multipart/encrypted") [] 62 ∷ [])
 unfolding utf8_lossy utf8_valid_len utf8_error_len is_utf8 chars lib.Utf8.encode digits

@@ -1,4 +1,4 @@
--- Lemmas on the places where a text is cut.
+-- Lemmas on where a text is cut.
 use Rattle.std.proofs.Common.{⊎_elim, ◌≡◌, ◌≤◌, ◌<◌, ◌-◌, ◌∙◌, ℕ, zero, suc, true, false, cond, List, length, take, ap, sym, subst, refl, arith}
 use Rattle.std.specs.Prelude.{◌==◌, ◌||◌, reverse, slice_index}
 use Rattle.std.specs.List.{suffix_len}
@@ -9,7 +9,7 @@ use Rattle.std.proofs.lemmas.Bool.{cases_lt, eqb-true, le-leb, le-ltb, lt-leb, l
 use Rattle.std.proofs.lemmas.List.{get_or-reverse, length-take, take_all}
 use Rattle.std.proofs.lemmas.List.Sums.{prefix_len_passes, suffix_len-le-length}
 use Rattle.std.proofs.lemmas.Str.{IsCharBoundary-before_ascii, IsCharBoundary-end}
-use Rattle.chat_card.specs.Texts.{front, is_space, trimmed}
+use Rattle.chat_card.specs.Texts.{prefix, is_space, trimmed}
 
 -- ---- what is trimmed
 
@@ -21,7 +21,7 @@ space_is_ascii b h = ⊎_elim
     (λ cr. omega (arith, eqb-true b 13 cr)) (or_cases (b == 32 || b == 9) (b == 13) white))
     (λ lf. omega (arith, eqb-true b 10 lf)) (or_cases (b == 32 || b == 9 || b == 13) (b == 10) h)
 
--- Behind what is trimmed stands a space, or nothing.
+-- What is trimmed is followed by a space, or by nothing.
 pub trimmed-boundary : (text : List ℕ) → IsCharBoundary text (length (trimmed text))
 trimmed-boundary text =
     let left = suffix_len is_space text in
@@ -38,7 +38,7 @@ trimmed-boundary text =
 
 -- ---- what is cut
 
--- the place is a boundary, and up to another one the last
+-- a boundary, and the last up to an offset
 abbrev pub IsLastBoundary : List ℕ → ℕ → ℕ → Type 0
 IsLastBoundary text at kept =
     (kept ≤ at) × IsCharBoundary text kept × ((i : ℕ) → kept < i → i ≤ at → ¬ (IsCharBoundary text i))
@@ -51,7 +51,7 @@ continues : (b : ℕ) → ¬ (128 ≤ b → 192 ≤ b) → is_char_start b ≡ f
 continues b h = ⊎_elim (λ low. absurd (h (λ high. omega arith)))
     (λ high. ⊎_elim (λ mid. rw (le-ltb b 128 high, lt-leb 192 b mid) refl) (λ top. absurd (h (λ _. top))) (cases_lt b 192)) (cases_lt b 128)
 
--- the last boundary up to a place in a text is the one that std names
+-- the last boundary up to an offset in a text is the one that std names
 last_boundary-is : (text : List ℕ) (at kept : ℕ) → at < length text → IsLastBoundary text at kept → floor_char_boundary text at ≡ kept
 unfolding floor_char_boundary
 last_boundary-is text zero kept within last = omega (arith, last.0)
@@ -63,8 +63,8 @@ last_boundary-is text (suc at) kept within last = ⊎_elim
     ap (λ t. cond t (suc at) (floor_char_boundary text at)) (starts _ ((subst (IsCharBoundary text) same last.1).1 within)) ∙ sym same)
     (cases_lt kept (suc at))
 
-pub front-is : (text : List ℕ) (kept : ℕ) → IsLastBoundary text 32768 kept → take kept text ≡ front text
-front-is text kept last = ⊎_elim
+pub prefix-is : (text : List ℕ) (kept : ℕ) → IsLastBoundary text 32768 kept → take kept text ≡ prefix text
+prefix-is text kept last = ⊎_elim
     (λ long. rw (lt-leb (length text) 32768 long) (ap (λ n. take n text) (sym (last_boundary-is text 32768 kept long last))))
     (λ fits. rw (le-leb (length text) 32768 fits) (take_all kept text (⊎_elim
     (λ short. absurd (last.2 (length text) short fits (IsCharBoundary-end text)))

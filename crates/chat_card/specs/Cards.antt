@@ -1,6 +1,6 @@
 -- The card of a mail, by the rules of its fields and its parts.
 use Rattle.std.specs.Prelude.{ℕ, ◌==◌, if◌then◌else◌, List, length, drop, Option, Some, None, Result, Ok, Err}
-use Rattle.card_type.specs.Rules.{is_light}
+use Rattle.card_type.specs.Rules.{fits_weight}
 use Rattle.card_type.specs.declared.card.Card.{Card}
 use Rattle.mail_address.specs.declared.person.Person.{Person}
 use Rattle.mail_headers.specs.Headers.{Head, header_of}
@@ -15,9 +15,9 @@ use Rattle.chat_card.specs.declared.text.CardText.{CardText}
 use Rattle.chat_card.specs.declared.fault.CardFault.{CardFault}
 use Rattle.chat_card.specs.declared.fault.CardFault.TheVariants.{NoFields, NoFrom, CardTooLong}
 
--- the card of a sender, of the fields, of what a chat program asks in them, and of what the parts show
+-- the card of a sender, of the fields, of what a chat program requests in them, and of the contents
 abbrev pub card_by : Person → Envelope → Requests → Contents → CardText → Card
-card_by from fields asks shows text =
+card_by from fields requests contents text =
     record {
       id = fields.id;
       from = from.addr;
@@ -27,34 +27,34 @@ card_by from fields asks shows text =
       date = fields.date;
       replies = fields.replies;
       references = fields.references;
-      chat = asks.chat;
-      group = asks.group;
-      group_name = asks.group_name;
-      added = asks.added;
-      removed = asks.removed;
-      renamed = asks.renamed;
-      edit = asks.edit;
-      deletes = asks.deletes;
-      timer = asks.timer;
+      chat = requests.chat;
+      group = requests.group;
+      group_name = requests.group_name;
+      added = requests.added;
+      removed = requests.removed;
+      renamed = requests.renamed;
+      edit = requests.edit;
+      deletes = requests.deletes;
+      timer = requests.timer;
       subject = fields.subject;
       text = text.text;
       cut = text.cut;
-      attachments = shows.attachments;
-      receipt = shows.receipt;
-      app = shows.app;
-      updates = shows.updates;
+      attachments = contents.attachments;
+      receipt = contents.receipt;
+      app = contents.app;
+      updates = contents.updates;
     }
 
 -- the card of a mail that a person sent
 abbrev pub card_from : ℕ → Head → Person → List ℕ → Card
 card_from uid head from body =
-    let asks = requests_of head in
-    let shows = contents_of head body in
-    card_by from (envelope_of uid head) asks shows (card_text asks.edit shows.text)
+    let requests = requests_of head in
+    let contents = contents_of head body in
+    card_by from (envelope_of uid head) requests contents (card_text requests.edit contents.text)
 
 -- The acceptance rule: a mail has a card if it has a field and a sender, and the card is not too heavy.
 abbrev pub accepted : Card → Result Card CardFault
-accepted card = if is_light card then Ok card else Err CardTooLong
+accepted card = if fits_weight card then Ok card else Err CardTooLong
 
 abbrev pub card_if : ℕ → Head → Option Person → List ℕ → Result Card CardFault
 card_if uid head None body = Err NoFrom

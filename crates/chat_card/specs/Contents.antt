@@ -1,4 +1,4 @@
--- What a mail shows, and what it tells to a chat program.
+-- The contents of a mail: what it shows, and what it says to a chat program.
 use Rattle.std.specs.Prelude.{ℕ, List, [], map, unwrap_or}
 use Rattle.mail_headers.specs.Headers.{Head}
 use Rattle.chat_card.specs.declared.contents.Contents.{Contents}

@@ -1,8 +1,8 @@
 -- Who wrote to whom, when, about what and in answer to what (RFC 5322, section 3.6).
 use Rattle.std.specs.Prelude.{ℕ, List, ◌++◌, map, codes, slice_get, Option, unwrap_or}
 use Rattle.std.specs.Fmt.{decimal}
-use Rattle.kit.specs.Distinct.{each_once}
-use Rattle.encoded_words.specs.Pieces.{decode_words}
+use Rattle.lists.specs.Distinct.{each_once}
+use Rattle.encoded_words.specs.Runs.{decode_words}
 use Rattle.mail_address.specs.declared.person.Person.{Person}
 use Rattle.mail_address.specs.People.{people}
 use Rattle.mail_date.specs.Moment.{moment}
@@ -10,21 +10,25 @@ use Rattle.mail_headers.specs.Headers.{Head, field}
 use Rattle.mail_headers.specs.Ids.{ids}
 use Rattle.chat_card.specs.declared.envelope.Envelope.{Envelope}
 
-abbrev pub first : {X : Type 0} → List X → Option X
-first xs = slice_get xs 0
+-- the first id and the first person in a body
+abbrev pub first_id : List ℕ → Option (List ℕ)
+first_id body = slice_get (ids body) 0
 
--- the id of a mail that tells none
+abbrev pub first_person : List ℕ → Option Person
+first_person body = slice_get (people body) 0
+
+-- the id of a mail without one
 abbrev pub stand_in_id : ℕ → List ℕ
 stand_in_id uid = codes "uid" ++ decimal uid ++ codes "@none"
 
 -- The mail id rule: the first id in the body of Message-ID, or else one that is made of the uid (section 3.6.4).
 abbrev pub mail_id : ℕ → List ℕ → List ℕ
-mail_id uid body = unwrap_or (first (ids body)) (stand_in_id uid)
+mail_id uid body = unwrap_or (first_id body) (stand_in_id uid)
 
--- The address rule: the sender is the first person of From (section 3.6.2), and the addresses of To and of Cc are those of their
--- people, each once, where it first stands (section 3.6.3).
+-- The address rule: the sender is the first person of From (section 3.6.2), and the addresses of To and of Cc are those
+-- of their people, each once, where it first is (section 3.6.3).
 abbrev pub sender : Head → Option Person
-sender head = first (people (field head (codes "From")))
+sender head = first_person (field head (codes "From"))
 
 abbrev pub addresses : List ℕ → List (List ℕ)
 addresses body = each_once (map (λ person. person.addr) (people body))

@@ -6,11 +6,11 @@ use Rattle.kit.specs.Letters.{lowered}
 use Rattle.kit.specs.Options.{◌>>=◌}
 use Rattle.card_type.specs.declared.card.Attachment.{Attachment}
 use Rattle.card_type.specs.declared.card.Update.{Update}
-use Rattle.mime_parts.specs.Kinds.{Kind}
+use Rattle.mime_fields.specs.Kinds.{Kind}
 use Rattle.part_read.specs.Updates.{updates}
 use Rattle.chat_card.specs.declared.part.Part.{Part}
 
--- the size of its content as it is decoded; a multipart that was not opened is counted as it stands
+-- the size of its decoded content; of a multipart that was not opened, of its undecoded content
 abbrev pub size_of : Part → ℕ
 size_of p =
     if bytes_eq p.node.kind.top (codes "multipart") then p.node.end - p.node.start else length p.content

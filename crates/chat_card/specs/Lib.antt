@@ -1,12 +1,14 @@
+-- What public clauses cite.
 pub mod Envelope
 pub mod Requests
 pub mod Parts
 pub mod Shown
-pub mod Leaves
-pub mod Views
-pub mod Walks
 pub mod Files
 pub mod Receipts
 pub mod Contents
 pub mod Texts
 pub mod Cards
+pub mod Leaves
+-- What only proofs and private functions use.
+pub mod Views
+pub mod Walks

@@ -2,7 +2,7 @@
 use Rattle.std.specs.Prelude.{ℕ, if◌then◌else◌, List, [], map, unwrap_or}
 use Rattle.mail_headers.specs.Headers.{Head}
 use Rattle.mime_parts.specs.declared.part.PartNode.{PartNode}
-use Rattle.mime_parts.specs.Kinds.{Kind, param_of}
+use Rattle.mime_fields.specs.Kinds.{Kind, param_of}
 use Rattle.mime_parts.specs.Multiparts.{bytes_at}
 use Rattle.mime_parts.specs.Trees.{tree}
 use Rattle.transfer_code.specs.Encodings.{decode_body}

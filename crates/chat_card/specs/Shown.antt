@@ -1,15 +1,13 @@
 -- What a mail shows of its parts: which leaf is a text, which is a file, and which is dropped (RFC 2046, section 5.1.4;
 -- RFC 2183).
-use Rattle.std.specs.Prelude.{ℕ, ◌==◌, nat_lt, Bool, true, false, not, ◌&&◌, ◌||◌, if◌then◌else◌, List, [], ◌∷◌, ◌++◌, length, codes, bytes_eq, Option, Some, None}
+use Rattle.std.specs.Prelude.{ℕ, ◌==◌, nat_lt, Bool, false, not, ◌&&◌, ◌||◌, if◌then◌else◌, List, [], ◌∷◌, ◌++◌, length, codes, bytes_eq, Option, Some, None}
 use Rattle.std.specs.List.{cons_option, filter_map, join_with_byte}
 use Rattle.kit.specs.Charsets.{charset_of, to_text}
 use Rattle.kit.specs.Letters.{same_name}
 use Rattle.flowed_text.specs.Flowed.{unflow, user_text}
 use Rattle.mime_parts.specs.declared.part.PartNode.{PartNode}
-use Rattle.mime_parts.specs.Kinds.{Kind}
+use Rattle.mime_fields.specs.Kinds.{Kind}
 use Rattle.mime_parts.specs.Trees.{is_kind}
-use Rattle.chat_card.specs.declared.kept.Way.{Way}
-use Rattle.chat_card.specs.declared.kept.Way.TheVariants.{Together, Choice, Beside}
 use Rattle.chat_card.specs.declared.part.Part.{Part}
 use Rattle.chat_card.specs.Parts.{param}
 
@@ -21,23 +19,23 @@ pub data Forest : Type 0 where
   Then : (first : Part) → (within : Forest) → (more : Forest) → Forest
 
 -- the leading trees that are deeper than a part at a depth: those in it
-abbrev pub young : ℕ → Forest → Forest
-young depth Nothing = Nothing
-young depth (Then p within more) = if nat_lt depth p.node.depth then Then p within (young depth more) else Nothing
+abbrev pub deeper : ℕ → Forest → Forest
+deeper depth Nothing = Nothing
+deeper depth (Then p within more) = if nat_lt depth p.node.depth then Then p within (deeper depth more) else Nothing
 
--- the trees behind those
-abbrev pub old : ℕ → Forest → Forest
-old depth Nothing = Nothing
-old depth (Then p within more) = if nat_lt depth p.node.depth then old depth more else Then p within more
+-- the trees that follow those
+abbrev pub following : ℕ → Forest → Forest
+following depth Nothing = Nothing
+following depth (Then p within more) = if nat_lt depth p.node.depth then following depth more else Then p within more
 
 -- the trees of parts in preorder, from the last to the first: a part takes in the deeper trees that follow it
 abbrev pub forest : List Part → Forest
 forest [] = Nothing
-forest (p ∷ ps) = let more = forest ps in Then p (young p.node.depth more) (old p.node.depth more)
+forest (p ∷ ps) = let more = forest ps in Then p (deeper p.node.depth more) (following p.node.depth more)
 
 -- ---- what a leaf is
 
--- without a file name, and not told to be an attachment
+-- without a file name, and without the disposition of an attachment
 abbrev pub is_inline : PartNode → Bool
 is_inline n = length n.name == 0 && not n.attach
 
@@ -68,40 +66,35 @@ leaf_beside p = if not p.node.leaf || is_any_text p.node then None else Some (Fi
 
 -- ---- which alternative is chosen
 
--- whether a part that shows a text, or shows none, is kept whole
-abbrev pub is_whole : Way → Bool → Bool
-is_whole Together shows = true
-is_whole Choice shows = shows
-is_whole Beside shows = false
-
--- the way of the parts that follow it
-abbrev pub way_behind : Way → Bool → Way
-way_behind Choice shows = if shows then Beside else Choice
-way_behind way shows = way
-
 abbrev pub is_alternative : Kind → Bool
 is_alternative kind = is_kind (codes "multipart") (codes "alternative") kind
 
--- the way of the parts in it, which show a text or show none: of alternatives one is chosen where one shows a text
-abbrev pub way_within : Bool → Kind → Bool → Way
-way_within whole kind shows = if not whole then Beside else if is_alternative kind && shows then Choice else Together
+-- whether one of the parts in a part is chosen: they are alternatives, and one shows a text
+abbrev pub is_choice : Part → Forest → Bool
+is_choice p within = is_alternative p.node.kind && shows_text within
 
--- what is kept of a part itself
-abbrev pub own : Bool → Part → Option Kept
-own whole p = if whole then leaf_of p else leaf_beside p
+-- what is kept beside an alternative that is chosen
+abbrev pub beside : Forest → List Kept
+beside Nothing = []
+beside (Then p within more) = cons_option (leaf_beside p) (beside within ++ beside more)
 
--- what is kept of trees that stand in a way
-abbrev pub kept : Way → Forest → List Kept
-kept way Nothing = []
-kept way (Then p within more) =
-    let below = shows_text within in
-    let shows = is_text p.node || below in
-    let whole = is_whole way shows in
-    cons_option (own whole p) (kept (way_within whole p.node.kind below) within ++ kept (way_behind way shows) more)
+abbrev mutual
+  -- what is kept of parts, each of which is kept whole
+  pub kept : Forest → List Kept
+  kept Nothing = []
+  kept (Then p within more) = cons_option (leaf_of p) ((if is_choice p within then chosen within else kept within) ++ kept more)
+
+  -- what is kept of alternatives: the first that shows a text is kept whole, and the others are beside it
+  pub chosen : Forest → List Kept
+  chosen Nothing = []
+  chosen (Then p within more) =
+      if is_text p.node || shows_text within
+      then cons_option (leaf_of p) ((if is_choice p within then chosen within else kept within) ++ beside more)
+      else cons_option (leaf_beside p) (beside within ++ chosen more)
 
 -- what is kept of a mail
 abbrev pub kept_of : List Part → List Kept
-kept_of parts = kept Together (forest parts)
+kept_of parts = kept (forest parts)
 
 -- ---- the text
 

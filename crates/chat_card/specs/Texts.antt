@@ -2,7 +2,7 @@
 use Rattle.std.specs.Prelude.{ℕ, ◌-◌, Bool, ◌||◌, ◌==◌, nat_le, nat_lt, if◌then◌else◌, List, [], ◌∷◌, length, take, Option, Some, None, unwrap_or}
 use Rattle.std.specs.Fmt.Cut.{floor_char_boundary}
 use Rattle.std.specs.List.{suffix_len}
-use Rattle.kit.specs.Cuts.{behind}
+use Rattle.kit.specs.Cuts.{strip_prefix}
 use Rattle.chat_card.specs.declared.text.CardText.{CardText}
 
 -- space (32), tab (9), CR (13) or LF (10)
@@ -19,18 +19,18 @@ edit_mark = 0xE2 ∷ 0x9C ∷ 0x8F ∷ 0xEF ∷ 0xB8 ∷ 0x8F ∷ []
 -- an edit says what it is by one mark at its beginning, for those who don't know its field
 abbrev pub unmarked : Option (List ℕ) → List ℕ → List ℕ
 unmarked None text = text
-unmarked (Some id) text = unwrap_or (behind edit_mark text) text
+unmarked (Some id) text = unwrap_or (strip_prefix text edit_mark) text
 
--- the longest front of at most 32,768 bytes that ends between two characters
-abbrev pub front : List ℕ → List ℕ
-front text = if nat_le (length text) 32768 then text else take (floor_char_boundary text 32768) text
+-- the longest prefix of at most 32,768 bytes that ends between two characters
+abbrev pub prefix : List ℕ → List ℕ
+prefix text = if nat_le (length text) 32768 then text else take (floor_char_boundary text 32768) text
 
 -- what a mail says: the text that it shows, which in an edit begins with a mark
-abbrev pub said : Option (List ℕ) → List ℕ → List ℕ
-said edit shown = unmarked edit (trimmed shown)
+abbrev pub uncut : Option (List ℕ) → List ℕ → List ℕ
+uncut edit shown = unmarked edit (trimmed shown)
 
 -- the text of the card of a mail that edits another, or none, and shows a text
 abbrev pub card_text : Option (List ℕ) → List ℕ → CardText
 card_text edit shown =
-    let text = said edit shown in
-    record { text = front text; cut = nat_lt (length (front text)) (length text) }
+    let text = uncut edit shown in
+    record { text = prefix text; cut = nat_lt (length (prefix text)) (length text) }

@@ -1,6 +1,6 @@
 -- What contracts see of values that the program holds.
-use Rattle.chat_card.specs.declared.kept.Kept as Borrowed
-use Rattle.chat_card.specs.declared.kept.Kept.TheVariants as code
+use Rattle.chat_card.specs.declared.leaf.Kept as Borrowed
+use Rattle.chat_card.specs.declared.leaf.Kept.TheVariants as code
 use Rattle.chat_card.specs.Shown.{Kept, Text, File}
 
 -- a part that is kept

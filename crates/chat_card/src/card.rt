@@ -1,25 +1,29 @@
 //! The card of a mail.
-ghost use Rattle.std.specs.Prelude.{◌≡◌, ◌⊎◌, List, IfErr, IfOk, IsTrue, Ok, Err};
-ghost use Rattle.card_type.specs.Rules.{is_light, is_valid};
+ghost use Rattle.std.specs.Prelude.{◌≡◌, ◌⊎◌, IfErr, IfOk, IsTrue, Ok, Err};
+ghost use Rattle.card_type.specs.Rules.{fits_weight, is_valid, keeps_bounds};
 ghost use Rattle.chat_card.specs.Cards.{accepted, card_by, card_from, card_of};
-ghost use Rattle.chat_card.specs.Leaves.{KeepsLeaves, KeepsOthers};
 ghost use Rattle.chat_card.specs.declared.fault.CardFault.TheVariants as fault;
-ghost use Rattle.chat_card.specs.declared.part.Part.{Part};
 
 use crate::contents::{Contents, read_contents};
 use crate::envelope::{Envelope, read_envelope, sender};
 use crate::fault::CardFault;
 use crate::requests::{Requests, read_requests};
 use crate::text::{CardText, card_text};
-use card_type::{Card, is_light, tell_types};
+use card_type::{Card, fits_weight};
 use kit::Memory;
 use mail_address::Person;
 use mail_headers::{Header, read_header};
 use std::alloc::Global;
 
-/// The card of a sender, of the fields, of what a chat program asks in them, and of what the parts show.
-fn card_by(from: Person, fields: Envelope, asks: Requests, shows: Contents, text: CardText) -> Card
-    ensures { result ≡ card_by from fields asks shows text }
+/// The card of a sender, of the fields, of what a chat program requests in them, and of the contents.
+fn card_by(
+    from: Person,
+    fields: Envelope,
+    requests: Requests,
+    contents: Contents,
+    text: CardText,
+) -> Card
+    ensures { result ≡ card_by from fields requests contents text }
 {
     Card {
         id: fields.id,
@@ -30,26 +34,26 @@ fn card_by(from: Person, fields: Envelope, asks: Requests, shows: Contents, text
         date: fields.date,
         replies: fields.replies,
         references: fields.references,
-        chat: asks.chat,
-        group: asks.group,
-        group_name: asks.group_name,
-        added: asks.added,
-        removed: asks.removed,
-        renamed: asks.renamed,
-        edit: asks.edit,
-        deletes: asks.deletes,
-        timer: asks.timer,
+        chat: requests.chat,
+        group: requests.group,
+        group_name: requests.group_name,
+        added: requests.added,
+        removed: requests.removed,
+        renamed: requests.renamed,
+        edit: requests.edit,
+        deletes: requests.deletes,
+        timer: requests.timer,
         subject: fields.subject,
         text: text.text,
         cut: text.cut,
-        attachments: shows.attachments,
-        receipt: shows.receipt,
-        app: shows.app,
-        updates: shows.updates,
+        attachments: contents.attachments,
+        receipt: contents.receipt,
+        app: contents.app,
+        updates: contents.updates,
     }
 }
 
-/// The card of a mail of this header and the body behind it, which a person sent.
+/// The card of a mail of this header and the body after it, which a person sent.
 fn card_from(
     alloc: Global,
     uid: u32,
@@ -58,51 +62,45 @@ fn card_from(
     body: &[u8],
 ) -> Result<Card, Memory>
     ensures card { IfOk result (λ card. card ≡ card_from uid header.now from body.now) }
-    // It keeps all rules of a card, but that it may be too heavy.
-    ensures valid { IfOk result (λ card. is_valid card ≡ is_light card) }
+    // It keeps the bounds of a card, but that it may be too heavy.
+    ensures bounds { IfOk result (λ card. keeps_bounds card ≡ fits_weight card) }
 {
     let fields = read_envelope(alloc, uid, header)?;
-    let asks = read_requests(alloc, header)?;
-    let shows = read_contents(alloc, header, body)?;
-    let text = card_text(alloc, &asks.edit, &shows.text)?;
-    let card = card_by(from, fields, asks, shows, text);
-    tell_types(&card);
-    Ok(card)
+    let requests = read_requests(alloc, header)?;
+    let contents = read_contents(alloc, header, body)?;
+    let text = card_text(alloc, &requests.edit, &contents.text)?;
+    Ok(card_by(from, fields, requests, contents, text))
 }
 
 /// A card, unless it is too heavy.
 fn accepted(card: Card) -> Result<Card, CardFault>
     ensures answer { result ≡ accepted card }
-    ensures valid { is_valid card ≡ is_light card → IfOk result (λ card. IsTrue (is_valid card)) }
+    ensures valid { keeps_bounds card ≡ fits_weight card → IfOk result (λ card. IsTrue (is_valid card)) }
 {
-    if is_light(&card) {
+    if fits_weight(&card) {
         Ok(card)
     } else {
         Err(CardFault::CardTooLong)
     }
 }
 
-/// The card of a mail: what is kept of it. Any bytes of any length are a mail. Takes memory, for long lines a few times the
-/// bytes of the mail.
+/// The card of a mail: what is kept of it. Any bytes of any length are a mail. Takes memory, for long lines a few times
+/// the bytes of the mail.
 ///
-/// Of a field that stands several times the first counts. `id` is the first id of Message-ID, or else `uid`, the uid in decimal
-/// and `@none`; `from` and `from_name` are the first person of From, and `to` and `cc` the addresses of To and Cc, each once; `date`,
-/// `replies`, `references` and `subject` are what the readers of Date, In-Reply-To, References and Subject give (RFC 5322,
-/// section 3.6). `chat` is true where Chat-Version stands, and only then the other fields of a chat are read. The text is the one
-/// that the parts show, without white space at its end and, in an edit, one U+270F U+FE0F at its beginning, cut at the end of a
-/// character to 32,768 bytes at most.
+/// Of several fields of one name the first counts. `id` is the first id of Message-ID, or else `uid`, the uid in
+/// decimal and `@none`; `from` and `from_name` are the first person of From, and `to` and `cc` the addresses of To and
+/// Cc, each once; `date`, `replies`, `references` and `subject` are what the readers of Date, In-Reply-To, References
+/// and Subject give (RFC 5322, section 3.6). `chat` is true where Chat-Version is present, and only then the other
+/// fields of a chat are read. The text is the one that the parts show, without white space at its end and, in an edit,
+/// one U+270F U+FE0F at its beginning, cut at the end of a character to 32,768 bytes at most.
 ///
-/// `NoFields` comes exactly where the header has no field, else `NoFrom` exactly where From names nobody with an address, else
-/// `CardTooLong` exactly where the weight of the card passes 1,048,576, and `Memory` only where there is none left.
-#[tactic(auto, using(crate::proofs::LeafLemmas::keeps_others, crate::proofs::LeafLemmas::keeps_leaves))]
+/// `NoFields` comes exactly where the header has no field, else `NoFrom` exactly where From names nobody with an
+/// address, else `CardTooLong` exactly where the weight of the card passes 1,048,576, and `Memory` only when memory
+/// runs out.
 pub fn read_card(alloc: Global, uid: u32, mail: &[u8]) -> Result<Card, CardFault>
     ensures card { IfOk result (λ card. card_of uid mail.now ≡ Ok card) }
     ensures fault { IfErr result (λ why. (why ≡ fault.Memory) ⊎ (card_of uid mail.now ≡ Err why)) }
     ensures valid { IfOk result (λ card. IsTrue (is_valid card)) }
-
-    // Of the parts of a mail only texts are dropped, and only from alternatives.
-    ensures others { (parts : List Part) → KeepsOthers parts }
-    ensures leaves { (parts : List Part) → KeepsLeaves parts }
 {
     let header = read_header(alloc, mail)?;
     if header.len() == 0 {

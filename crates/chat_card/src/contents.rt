@@ -1,4 +1,4 @@
-//! What a mail shows, and what it tells to a chat program.
+//! The contents of a mail: what it shows, and what it says to a chat program.
 ghost use Rattle.std.specs.Prelude.{◌≡◌, [], IfOk, IsTrue, OnOk, map, unwrap_or};
 ghost use Rattle.std.specs.List.{list_all};
 ghost use Rattle.std.specs.Result.{result_ok};
@@ -7,18 +7,19 @@ ghost use Rattle.part_read.specs.Updates.{updates};
 ghost use Rattle.chat_card.specs.Contents.{contents_in, contents_of};
 ghost use Rattle.chat_card.specs.Files.{attached, updates_in};
 
-use crate::files::{attachments, files, has_app, update_place};
+use crate::files::{attachments, files, has_app, update_index};
 use crate::kept::kept_of;
 use crate::part::{Part, parts_of};
 use crate::report::receipt_of;
 use crate::shown::shown_text;
-use card_type::{Attachment, Items, Update};
+use card_type::{Attachment, Update};
 use kit::{Id, Memory, Text};
+use lists::Items;
 use mail_headers::Header;
 use part_read::{UpdateFault, read_updates};
 use std::alloc::Global;
 
-/// What the parts of a mail say.
+/// The contents of a mail: what its parts say.
 #[derive(Debug, Drop)]
 pub struct Contents {
     /// The text that it shows.
@@ -45,19 +46,19 @@ fn accepted(alloc: Global, file: &Part) -> Result<Option<Items<Update>>, Memory>
     }
 }
 
-/// Takes the file of updates out of the files, if there is one and they are accepted, and gives the updates.
+/// Takes the file of updates out of the files, if there is one and they are accepted, and returns the updates.
 fn take_updates(alloc: Global, files: &mut Vec<&Part>) -> Result<Items<Update>, Memory>
     ensures updates { IfOk result (λ updates. updates ≡ unwrap_or (updates_in (map (λ f. f.now) files.old.items)) []) }
     ensures rules { IfOk result (λ updates. IsTrue (list_all is_update updates)) }
     ensures files { OnOk result (map (λ f. f.now) files.new.items ≡ attached (map (λ f. f.now) files.old.items)) }
 {
-    let Some(place) = update_place(files) else {
+    let Some(index) = update_index(files) else {
         return Ok(Items::new(alloc));
     };
-    let Some(updates) = accepted(alloc, files[place])? else {
+    let Some(updates) = accepted(alloc, files[index])? else {
         return Ok(Items::new(alloc));
     };
-    files.remove(place);
+    files.remove(index);
     Ok(updates)
 }
 
@@ -78,20 +79,20 @@ fn contents_in(alloc: Global, parts: &[Part]) -> Result<Contents, Memory>
     })
 }
 
-/// Reads what the parts of a mail of this header say, and of the body behind it. Any bytes are a body. Takes memory, and is
-/// `Err` only where there is none.
+/// Reads what the parts of a mail of this header and the body after it say. Any bytes are a body. Takes memory; `Err`
+/// only when it runs out.
 ///
-/// A leaf that is text/plain, has no file name and is not told to be an attachment (RFC 2183) is shown as a text, and any other
-/// is a file. Of alternatives the first that shows a text is chosen (RFC 2046, section 5.1.4), and in the others texts of any
-/// type without a file name are dropped. A text is read in its charset, made whole where it is flowed (RFC 3676), and ends
-/// above a signature; an LF stands between each two.
+/// A leaf that is text/plain, has no file name and whose disposition is not that of an attachment (RFC 2183) is shown
+/// as a text, and any other is a file. Of alternatives the first that shows a text is chosen (RFC 2046, section 5.1.4),
+/// and in the others texts of any type without a file name are dropped. A text is read in its charset, made whole where
+/// it is flowed (RFC 3676), and ends above a signature; there is an LF between each two.
 ///
-/// The receipt is that of the first notification in a report that the mail itself is (RFC 3798, section 3). A file is an app
-/// where its name ends in `.xdc`, without the case of letters. Where none is, the first file that is named `status-update.json`
-/// is read for updates, and is no file of the mail where it is accepted.
+/// The receipt is that of the first notification in a report that the mail itself is (RFC 3798, section 3). A file is
+/// an app where its name ends in `.xdc`, without the case of letters. Where none is, the first file that is named
+/// `status-update.json` is read for updates, and is no file of the mail where it is accepted.
 pub fn read_contents(alloc: Global, header: &Header, body: &[u8]) -> Result<Contents, Memory>
     ensures value { IfOk result (λ contents. contents ≡ contents_of header.now body.now) }
-    // They keep the rule of a card that the types leave open.
+    // They keep the rules of a card.
     ensures updates { IfOk result (λ contents. IsTrue (list_all is_update contents.updates)) }
 {
     contents_in(alloc, &parts_of(alloc, header, body)?)

@@ -5,11 +5,12 @@ ghost use Rattle.chat_card.specs.Files.{attachment, is_app, is_update_file, kind
 ghost use Rattle.chat_card.specs.Shown.{file_of};
 ghost use Rattle.chat_card.specs.Views.{kept};
 
-use crate::kept::Kept;
+use crate::leaf::Kept;
 use crate::part::Part;
-use card_type::{Attachment, Items};
+use card_type::Attachment;
 use kit::{Memory, Text, same_name};
-use mime_parts::ContentType;
+use lists::Items;
+use mime_fields::ContentType;
 use std::alloc::Global;
 
 /// How the name of an app ends.
@@ -49,15 +50,15 @@ fn is_update_file(file: &Part) -> bool
     file.node.name.bytes() == b"status-update.json".as_slice()
 }
 
-fn named_place(files: &[&Part]) -> Option<usize>
-    ensures place { result ≡ position (λ f. is_update_file f.now) files.now }
+fn named_index(files: &[&Part]) -> Option<usize>
+    ensures index { result ≡ position (λ f. is_update_file f.now) files.now }
     ensures bound { IfSome result (λ at. at < length files.now) }
 {
     files.iter().position(|file| is_update_file(file))
 }
 
-/// The place of the file that is to be read for updates, if there is one.
-pub fn update_place(files: &[&Part]) -> Option<usize>
+/// The index of the file that is to be read for updates, if there is one.
+pub fn update_index(files: &[&Part]) -> Option<usize>
     ensures none { IfNone result (update_file (map (λ f. f.now) files.now) ≡ None) }
     ensures bound { IfSome result (λ at. at < length files.now) }
     ensures file { IfSome result (λ at. update_file (map (λ f. f.now) files.now) ≡ option_map (λ f. f.now) (slice_get files.now at)) }
@@ -66,7 +67,7 @@ pub fn update_place(files: &[&Part]) -> Option<usize>
     if has_app(files) {
         return None;
     }
-    named_place(files)
+    named_index(files)
 }
 
 /// A media type as it is written.
@@ -100,7 +101,7 @@ fn attachment(alloc: Global, file: &Part) -> Result<Attachment, Memory>
     })
 }
 
-/// What a mail tells of its files.
+/// What is kept of the files.
 pub fn attachments(alloc: Global, files: &[&Part]) -> Result<Items<Attachment>, Memory>
     ensures { IfOk result (λ made. made ≡ map attachment (map (λ f. f.now) files.now)) }
 {

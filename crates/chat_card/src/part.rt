@@ -1,18 +1,19 @@
 //! Parts with what they hold.
 ghost use Rattle.std.specs.Prelude.{◌≡◌, ◌≤◌, IfOk, length};
-ghost use Rattle.mime_parts.specs.Walks.{IsNodeWithin};
+ghost use Rattle.mime_parts.specs.Trees.{IsNodeWithin};
 ghost use Rattle.chat_card.specs.Parts.{content_of, param, parts_of};
 
 use kit::{Bytes, Memory};
 use mail_headers::Header;
-use mime_parts::{ContentType, PartNode, parts};
+use mime_fields::ContentType;
+use mime_parts::{PartNode, parts};
 use std::alloc::Global;
 use transfer_code::decode_body;
 
 /// A part of a mail, and what it holds.
 #[derive(Debug, Drop)]
 pub struct Part {
-    /// What its header says of it, and where it stands.
+    /// What its header says of it, and where it is.
     pub node: PartNode,
     /// Its content, decoded (RFC 2045, section 6); empty where parts of it are in the tree.
     pub content: Bytes,

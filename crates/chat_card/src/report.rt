@@ -21,7 +21,7 @@ fn is_report(node: &PartNode) -> bool
         )
 }
 
-/// Whether a part stands right below the mail itself and is a notification (RFC 3798, section 3).
+/// Whether a part is right below the mail itself and is a notification (RFC 3798, section 3).
 fn is_notification(part: &Part) -> bool
     ensures { result ≡ is_notification part.now }
 {

@@ -1,17 +1,16 @@
-//! What a mail of a chat program asks for.
+//! What a mail of a chat program requests.
 ghost use Rattle.std.specs.Prelude.{◌≡◌, ◌<◌, ◌^◌, IfOk};
-ghost use Rattle.chat_card.specs.Requests.{address_in, asked, has_field, is_chat, requests_of, timer_of};
+ghost use Rattle.chat_card.specs.Requests.{address_in, chat_field, has_field, is_chat, requests_of, timer_of};
 
-use crate::envelope::first;
-use card_type::{GroupId, Items};
+use crate::envelope::{first_id, first_person};
+use card_type::GroupId;
 use encoded_words::decode_words;
-use kit::{Addr, Id, Memory, Text};
-use mail_address::people;
-use mail_date::number;
+use kit::{Addr, Id, Memory, Text, number};
+use lists::Items;
 use mail_headers::{Header, ids};
 use std::alloc::Global;
 
-/// What the fields of a chat ask for; of a mail that no chat program sent, nothing.
+/// What the fields of a chat request; of a mail that no chat program sent, nothing.
 #[derive(Drop)]
 pub struct Requests {
     /// Whether a chat program sent the mail.
@@ -48,8 +47,8 @@ fn is_chat(header: &Header) -> bool
 }
 
 /// The body of a field of a chat, which is empty in other mails.
-fn asked<'a>(header: &'a Header, name: &[u8]) -> &'a [u8]
-    ensures { result.now ≡ asked header.now name.now }
+fn chat_field<'a>(header: &'a Header, name: &[u8]) -> &'a [u8]
+    ensures { result.now ≡ chat_field header.now name.now }
 {
     if is_chat(header) {
         header.field(name)
@@ -62,7 +61,7 @@ fn asked<'a>(header: &'a Header, name: &[u8]) -> &'a [u8]
 fn address_in(alloc: Global, body: &[u8]) -> Result<Option<Addr>, Memory>
     ensures { IfOk result (λ addr. addr ≡ address_in body.now) }
 {
-    Ok(first(people(alloc, body)?).map(|person| person.addr))
+    Ok(first_person(alloc, body)?.map(|person| person.addr))
 }
 
 /// The timer that a body sets, in seconds; 0 where it sets none.
@@ -75,19 +74,19 @@ fn timer_of(body: &[u8]) -> u32
     }
 }
 
-/// What the fields of a chat in a header ask for.
+/// What the fields of a chat in a header request.
 pub fn read_requests(alloc: Global, header: &Header) -> Result<Requests, Memory>
     ensures { IfOk result (λ requests. requests ≡ requests_of header.now) }
 {
     Ok(Requests {
         chat: is_chat(header),
-        group: GroupId::read(alloc, asked(header, b"Chat-Group-ID"))?,
-        group_name: decode_words(alloc, asked(header, b"Chat-Group-Name"))?,
-        added: address_in(alloc, asked(header, b"Chat-Group-Member-Added"))?,
-        removed: address_in(alloc, asked(header, b"Chat-Group-Member-Removed"))?,
+        group: GroupId::read(alloc, chat_field(header, b"Chat-Group-ID"))?,
+        group_name: decode_words(alloc, chat_field(header, b"Chat-Group-Name"))?,
+        added: address_in(alloc, chat_field(header, b"Chat-Group-Member-Added"))?,
+        removed: address_in(alloc, chat_field(header, b"Chat-Group-Member-Removed"))?,
         renamed: is_chat(header) && has_field(header, b"Chat-Group-Name-Changed"),
-        edit: first(ids(alloc, asked(header, b"Chat-Edit"))?),
-        deletes: Items::from(ids(alloc, asked(header, b"Chat-Delete"))?),
-        timer: timer_of(asked(header, b"Ephemeral-Timer")),
+        edit: first_id(alloc, chat_field(header, b"Chat-Edit"))?,
+        deletes: Items::from(ids(alloc, chat_field(header, b"Chat-Delete"))?),
+        timer: timer_of(chat_field(header, b"Ephemeral-Timer")),
     })
 }

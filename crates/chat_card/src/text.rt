@@ -1,13 +1,11 @@
 //! The text of a card.
 ghost use Rattle.std.specs.Prelude.{◌≡◌, ◌≤◌, ℕ, IfOk, length};
 ghost use Rattle.std.specs.Str.{IsCharBoundary};
-ghost use Rattle.chat_card.specs.Texts.{card_text, front, trimmed, unmarked};
+ghost use Rattle.chat_card.specs.Texts.{card_text, prefix, trimmed, unmarked};
 
+use card_type::MAX_TEXT_LEN;
 use kit::{Id, Memory, Text};
 use std::alloc::Global;
-
-/// No card has a longer text.
-const LONGEST: usize = 32_768;
 
 /// What an edit puts before its text, for those who don't know its field: a pencil.
 const EDIT_MARK: &str = "\u{270F}\u{FE0F}";
@@ -38,13 +36,13 @@ fn unmarked<'a>(edit: &Option<Id>, text: &'a str) -> &'a str
     }
 }
 
-/// The longest front of a text that a card has room for and that ends between two characters.
-fn front(text: &str) -> &str
-    ensures value { result.now ≡ front text.now }
+/// The longest prefix of a text that a card has room for and that ends between two characters.
+fn prefix(text: &str) -> &str
+    ensures value { result.now ≡ prefix text.now }
     ensures room { length result.now ≤ 32768 }
     ensures longest { (at : ℕ) → at ≤ 32768 → IsCharBoundary text.now at → at ≤ length result.now }
 {
-    &text[..text.floor_char_boundary(LONGEST)]
+    &text[..text.floor_char_boundary(MAX_TEXT_LEN)]
 }
 
 /// The text of a card.
@@ -61,10 +59,10 @@ pub fn card_text(alloc: Global, edit: &Option<Id>, shown: &Text) -> Result<CardT
     ensures value { IfOk result (λ text. text ≡ card_text edit.now shown.now) }
     ensures room { IfOk result (λ text. length text.text ≤ 32768) }
 {
-    let said = unmarked(edit, trimmed(shown.as_str()));
-    let kept = front(said);
+    let text = unmarked(edit, trimmed(shown.as_str()));
+    let kept = prefix(text);
     Ok(CardText {
         text: Text::from(String::from_str(alloc, kept)?),
-        cut: kept.len() < said.len(),
+        cut: kept.len() < text.len(),
     })
 }

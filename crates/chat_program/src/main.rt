@@ -17,7 +17,7 @@ const MBOX: &str = "box.mbox";
 
 const STEPS: &str = "box.steps";
 
-/// The words behind the program's name. Where one of them is no text there are none, which is no command.
+/// The words after the program's name. Where one of them is no text there are none, which is no command.
 fn words<R: Env + AllocGlobal>(rt: &R) -> Result<Vec<Text>, Memory> {
     let mut words = Vec::new(rt.alloc());
     let args = match env::args(rt) {
@@ -31,7 +31,7 @@ fn words<R: Env + AllocGlobal>(rt: &R) -> Result<Vec<Text>, Memory> {
     Ok(words)
 }
 
-/// The steps file, if it is there. Where that can't be told, a source of which each call fails.
+/// The steps file, if it is there. Where that can't be known, a source of which each call fails.
 fn steps_file<R: Files>(rt: &R) -> Result<Option<FileSource<R::File>>, Memory> {
     match fs::exists(rt, STEPS) {
         Ok(false) => Ok(None),

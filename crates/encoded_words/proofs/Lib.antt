@@ -1,3 +1,3 @@
 pub mod WordLemmas
-pub mod PieceLemmas
+pub mod RunLemmas
 mod Rows

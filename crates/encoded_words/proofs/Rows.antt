@@ -2,7 +2,7 @@
 use Rattle.std.proofs.Common.{◌≡◌, [], ◌∷◌, ◌++◌, codes, refl}
 use Rattle.std.specs.Str.{is_utf8, chars}
 use Rattle.std.specs.Str.Lossy.{utf8_lossy, utf8_valid_len, utf8_error_len}
-use Rattle.encoded_words.specs.Pieces.{decode_words}
+use Rattle.encoded_words.specs.Runs.{decode_words}
 
 two_words : decode_words (codes "=?utf-8?Q?J=C3=BCrgen?= =?utf-8?Q?_M?=") ≡ codes "J" ++ (195 ∷ 188 ∷ codes "rgen M")
 unfolding utf8_lossy utf8_valid_len utf8_error_len is_utf8 chars lib.Utf8.encode
@@ -33,7 +33,7 @@ two_charsets : decode_words (codes "=?utf-8?q?=c3=a9?= \t =?Latin1?B?6Q==?=") �
 unfolding utf8_lossy utf8_valid_len utf8_error_len is_utf8 chars lib.Utf8.encode
 two_charsets = refl
 
--- each half of a character that stands in two words is U+FFFD
+-- each half of a character that is spread over two words is U+FFFD
 character_in_two_words : decode_words (codes "=?utf-8?Q?=C3?= =?utf-8?Q?=A9?=") ≡ 239 ∷ 191 ∷ 189 ∷ 239 ∷ 191 ∷ 189 ∷ []
 unfolding utf8_lossy utf8_valid_len utf8_error_len is_utf8 chars lib.Utf8.encode
 character_in_two_words = refl
@@ -67,7 +67,7 @@ charset_before_language_empty : decode_words (codes "=?*de?Q?a=E9?=") ≡ 97 ∷
 unfolding utf8_lossy utf8_valid_len utf8_error_len is_utf8 chars lib.Utf8.encode
 charset_before_language_empty = refl
 
--- what is no word stands as it is
+-- what is no word is kept as it is
 charset_empty : decode_words (codes "=??Q?a?=") ≡ codes "=??Q?a?="
 unfolding utf8_lossy utf8_valid_len utf8_error_len is_utf8 chars lib.Utf8.encode
 charset_empty = refl

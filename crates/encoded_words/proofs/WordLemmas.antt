@@ -1,4 +1,4 @@
--- Where the bytes behind a word begin.
+-- Where the bytes after a word begin.
 use Rattle.std.proofs.Common.{◌≡◌, ℕ, suc, ◌+◌, ◌-◌, ◌≤◌, true, false, Bool, List, [], ◌∷◌, length, take, drop, codes, Option, Some, None, refl, sym, ap, ◌∙◌, arith, inl, inr}
 use Rattle.std.specs.Prelude.{position, nat_eq, option_map, IfSome, ◌&&◌, ◌==◌, if◌then◌else◌}
 use Rattle.std.specs.List.{starts_with}
@@ -6,12 +6,12 @@ use Rattle.std.proofs.lemmas.Bool.{cases_lt}
 use Rattle.std.proofs.lemmas.List.{drop-drop, drop_all, length-drop}
 use Rattle.encoded_words.specs.declared.word.Coding.{Coding}
 use Rattle.kit.specs.Charsets.{charset_of}
-use Rattle.kit.specs.Cuts.{behind}
+use Rattle.kit.specs.Cuts.{strip_prefix}
 use Rattle.kit.specs.Options.{◌>>=◌}
 use Rattle.kit.specs.Printing.{is_printing, is_visible}
 use Rattle.encoded_words.specs.Words.{Found, cut, word_of, word_at, coding_of, without_language}
 
--- the bytes are what is left behind so many others
+-- the bytes are what is left after so many others
 abbrev IsRest : List ℕ → List ℕ → Type 0
 IsRest all rest = (k : ℕ) × (rest ≡ drop k all)
 
@@ -36,10 +36,10 @@ cut-rest all bytes h = go (position (λ b. b == 63) bytes)
     go None = tt
     go (Some at) = rest_of_rest (at + 1) all bytes (drop (at + 1) bytes) h refl
 
-behind-rest : (front all bytes : List ℕ) → IsRest all (drop (length front) bytes) → IfSome (behind front bytes) (IsRest all)
-behind-rest front all bytes h = go (starts_with nat_eq bytes front)
+strip_prefix-rest : (prefix all bytes : List ℕ) → IsRest all (drop (length prefix) bytes) → IfSome (strip_prefix bytes prefix) (IsRest all)
+strip_prefix-rest prefix all bytes h = go (starts_with nat_eq bytes prefix)
   where
-    go : (b : Bool) → IfSome (if b then Some (drop (length front) bytes) else None) (IsRest all)
+    go : (b : Bool) → IfSome (if b then Some (drop (length prefix) bytes) else None) (IsRest all)
     go true = h
     go false = tt
 
@@ -52,15 +52,15 @@ word_of-rest charset coding text rest all h = go (is_visible charset && is_print
     go true None = tt
     go true (Some c) = h
 
--- behind the first two bytes, which are its `=?`
+-- after the first two bytes, which are its `=?`
 word_at-rest : (bytes : List ℕ) → IfSome (word_at bytes) (IsFound (drop 2 bytes))
 word_at-rest bytes =
     let all = drop 2 bytes in
-    let first = bind (IsRest all) (IsCut all) (behind (codes "=?") bytes) cut (behind-rest (codes "=?") all bytes (0, refl)) (cut-rest all) in
-    bind (IsCut all) (IsFound all) (behind (codes "=?") bytes >>= cut) _ first
+    let first = bind (IsRest all) (IsCut all) (strip_prefix bytes (codes "=?")) cut (strip_prefix-rest (codes "=?") all bytes (0, refl)) (cut-rest all) in
+    bind (IsCut all) (IsFound all) (strip_prefix bytes (codes "=?") >>= cut) _ first
     (λ charset h. bind (IsCut all) (IsFound all) (cut charset.1) _ (cut-rest all charset.1 h)
     (λ coding i. bind (IsCut all) (IsFound all) (cut coding.1) _ (cut-rest all coding.1 i)
-    (λ text j. bind (IsRest all) (IsFound all) (behind (codes "=") text.1) _ (behind-rest (codes "=") all text.1 (rest_of_rest 1 all text.1 (drop 1 text.1) j refl))
+    (λ text j. bind (IsRest all) (IsFound all) (strip_prefix text.1 (codes "=")) _ (strip_prefix-rest (codes "=") all text.1 (rest_of_rest 1 all text.1 (drop 1 text.1) j refl))
     (λ rest k. word_of-rest charset.0 coding.0 text.0 rest all k))))
 
 drop_again : (k : ℕ) (xs : List ℕ) → drop (length xs - length (drop k xs)) xs ≡ drop k xs
@@ -69,7 +69,7 @@ drop_again k xs = elim (cases_lt k (length xs)) [
   | inr le ↦ drop_all (length xs - length (drop k xs)) xs (omega (arith, length-drop k xs)) ∙ sym (drop_all k xs le)
 ]
 
--- the bytes behind a word, of those behind its first byte
+-- the bytes after a word, of those after its first byte
 pub rest_of_word : (b : ℕ) (bs : List ℕ) (w : Found) → word_at (b ∷ bs) ≡ Some w → drop (length bs - length w.rest) bs ≡ w.rest
 rest_of_word b bs w e =
     let rest : IsRest (drop 1 bs) w.rest = go (word_at (b ∷ bs)) e (word_at-rest (b ∷ bs)) in

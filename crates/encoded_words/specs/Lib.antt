@@ -1,3 +1,5 @@
+-- What public clauses cite.
+pub mod Runs
 pub mod Words
+-- What only proofs and private functions use.
 pub mod Views
-pub mod Pieces

@@ -1,20 +1,20 @@
-//! The words in bytes, and what stands between them.
+//! The words in bytes, and the plain runs between them.
 ghost use Rattle.std.specs.Prelude.{◌≡◌, ◌++◌, ◌<◌, IfOk, OnOk, MatchOption, length};
 ghost use Rattle.std.specs.String.{string_bytes};
 ghost use Rattle.kit.specs.declared.charset.Charset.TheVariants.{Utf8};
 ghost use Rattle.kit.specs.Charsets.{to_text};
 ghost use Rattle.encoded_words.specs.Words.{word_text};
 ghost use Rattle.encoded_words.specs.Views.{found};
-ghost use Rattle.encoded_words.specs.Pieces.{Last, Next, pieces, kept, decode_words};
+ghost use Rattle.encoded_words.specs.Runs.{Last, Next, runs, kept, decode_words};
 
 use crate::word::{Word, word_at};
 use kit::{Charset, Memory, Text, is_blank, to_text};
 use std::alloc::Global;
 
-/// The first word in bytes, with the stretch before it.
+/// The first word in bytes, with the plain run before it.
 fn first_word(bytes: &[u8]) -> Option<(&[u8], Word<'_>)>
-    ensures { MatchOption result (pieces bytes.now ≡ Last bytes.now)
-        (λ f. (pieces bytes.now ≡ Next f.0.now (found f.1) (pieces f.1.rest.now)) × (length f.1.rest.now < length bytes.now)) }
+    ensures { MatchOption result (runs bytes.now ≡ Last bytes.now)
+        (λ f. (runs bytes.now ≡ Next f.0.now (found f.1) (runs f.1.rest.now)) × (length f.1.rest.now < length bytes.now)) }
 {
     for at in 0..bytes.len() {
         if let Some(word) = word_at(&bytes[at..]) {
@@ -24,21 +24,21 @@ fn first_word(bytes: &[u8]) -> Option<(&[u8], Word<'_>)>
     None
 }
 
-/// What stays of a stretch before a word.
-fn kept(after_word: bool, stretch: &[u8]) -> &[u8]
-    ensures { result.now ≡ kept after_word stretch.now }
+/// What stays of a plain run before a word.
+fn kept(after_word: bool, plain: &[u8]) -> &[u8]
+    ensures { result.now ≡ kept after_word plain.now }
 {
-    if after_word && is_blank(stretch) {
-        &stretch[..0]
+    if after_word && is_blank(plain) {
+        &plain[..0]
     } else {
-        stretch
+        plain
     }
 }
 
-fn push_stretch(out: &mut String, stretch: &[u8]) -> Result<(), Memory>
-    ensures { OnOk result (string_bytes out.new ≡ string_bytes out.old ++ to_text Utf8 stretch.now) }
+fn push_plain(out: &mut String, plain: &[u8]) -> Result<(), Memory>
+    ensures { OnOk result (string_bytes out.new ≡ string_bytes out.old ++ to_text Utf8 plain.now) }
 {
-    let text = to_text(*out.allocator(), Charset::Utf8, stretch)?;
+    let text = to_text(*out.allocator(), Charset::Utf8, plain)?;
     out.push_str(text.as_str())?;
     Ok(())
 }
@@ -51,26 +51,26 @@ fn push_word(out: &mut String, word: &Word) -> Result<(), Memory>
     Ok(())
 }
 
-/// The text of the body of a header field, of any length, with each encoded word read (RFC 2047). Takes memory, and is
-/// `Err` only where there is none.
+/// The text of the body of a header field, of any length, with each encoded word read (RFC 2047). Takes memory;
+/// `Err` only when it runs out.
 ///
 /// A word is `=?`, a charset, `?`, `Q` or `B` of either case, `?`, a text, and `?=`: the charset is of one or more bytes
 /// from 33 to 126, and the text of bytes from 32 to 126, or empty; neither holds a `?`. Words are found from the left,
-/// wherever they stand. Of the charset a `*` and what stands behind it are dropped (RFC 2231, section 5). Each word is
+/// wherever they are. Of the charset a `*` and what follows it are dropped (RFC 2231, section 5). Each word is
 /// read by itself, so what it cuts short of a character stays short. White space alone between two words is dropped,
-/// and every other stretch is read as UTF-8.
+/// and every other plain run is read as UTF-8.
 pub fn decode_words(alloc: Global, body: &[u8]) -> Result<Text, Memory>
     ensures { IfOk result (λ text. text ≡ decode_words body.now) }
 {
     let mut out = String::new(alloc);
     let mut rest = body;
     let mut after_word = false;
-    while let Some((stretch, word)) = first_word(rest) {
-        push_stretch(&mut out, kept(after_word, stretch))?;
+    while let Some((plain, word)) = first_word(rest) {
+        push_plain(&mut out, kept(after_word, plain))?;
         push_word(&mut out, &word)?;
         rest = word.rest;
         after_word = true;
     }
-    push_stretch(&mut out, rest)?;
+    push_plain(&mut out, rest)?;
     Ok(Text::from(out))
 }

@@ -4,13 +4,13 @@ ghost use Rattle.encoded_words.specs.Words.{without_language, coding_of, word_at
 ghost use Rattle.encoded_words.specs.Views.{found};
 
 use kit::{
-    Charset, Memory, Text, before, behind, charset_of, is_printing, is_visible, same_name,
-    split_once, to_text,
+    Charset, Memory, Text, before_first, charset_of, is_printing, is_visible, same_name,
+    split_once, strip_prefix, to_text,
 };
 use std::alloc::Global;
 use transfer_code::{Encoding, decode_body, unescaped};
 
-/// How the text of a word stands for bytes (RFC 2047, section 4).
+/// How the text of a word encodes bytes (RFC 2047, section 4).
 #[derive(Clone, Copy, Debug, PartialEq, Eq)]
 pub enum Coding {
     /// Like quoted-printable, with `_` for a space.
@@ -25,15 +25,15 @@ pub struct Word<'a> {
     charset: Charset,
     coding: Coding,
     text: &'a [u8],
-    /// The bytes behind the word.
+    /// The bytes after the word.
     pub rest: &'a [u8],
 }
 
-/// The name of a charset, without a language behind it.
+/// The name of a charset, without a language after it.
 fn without_language(name: &[u8]) -> &[u8]
     ensures { result.now ≡ without_language name.now }
 {
-    before(name, b'*')
+    before_first(name, b'*')
 }
 
 fn coding_of(name: &[u8]) -> Option<Coding>
@@ -52,10 +52,10 @@ fn coding_of(name: &[u8]) -> Option<Coding>
 pub fn word_at(bytes: &[u8]) -> Option<Word<'_>>
     ensures { option_map found result ≡ word_at bytes.now }
 {
-    let (charset, rest) = split_once(behind(b"=?", bytes)?, b'?')?;
+    let (charset, rest) = split_once(strip_prefix(bytes, b"=?")?, b'?')?;
     let (coding, rest) = split_once(rest, b'?')?;
     let (text, rest) = split_once(rest, b'?')?;
-    let rest = behind(b"=", rest)?;
+    let rest = strip_prefix(rest, b"=")?;
     if !is_visible(charset) || !is_printing(text) {
         return None;
     }
@@ -89,7 +89,7 @@ fn coded_bytes(alloc: Global, coding: Coding, text: &[u8]) -> Result<Vec<u8>, Me
 }
 
 impl Word<'_> {
-    /// What the word says. Takes memory, and is `Err` only where there is none.
+    /// The text that the word encodes. Takes memory; `Err` only when it runs out.
     pub fn text(&self, alloc: Global) -> Result<Text, Memory>
         ensures { IfOk result (λ text. text ≡ word_text (found self.now)) }
     {

@@ -1,5 +1,4 @@
 pub mod AboveLemmas
 pub mod EndLemmas
-pub mod LineTexts
 pub mod WrittenLemmas
 mod Rows

@@ -24,7 +24,7 @@ other_depth = refl
 other_depth_delsp : unflow (codes "> a \nb") true ≡ codes "> a \nb"
 other_depth_delsp = refl
 
--- the depth is the number of marks side by side: the mark behind a space is text
+-- the depth is the number of marks side by side: the mark after a space is text
 marks_apart : quoted_line (codes ">> > a") ≡ record { depth = 2; text = codes "> a" }
 marks_apart = refl
 
@@ -47,7 +47,7 @@ signature_not_joined = refl
 signature_at_a_depth : unflow (codes "> a \n> -- \n> b \n> c") false ≡ codes "> a \n> -- \n> b c"
 signature_at_a_depth = refl
 
--- the test is on the text behind the stuffing
+-- the test is on the text after the stuffing
 signature_stuffed : unflow (codes " -- \nb") false ≡ codes "-- \nb"
 signature_stuffed = refl
 
@@ -66,17 +66,17 @@ empty_lines = refl
 ends_by_crlf : unflow (codes "a \r\nb\r\nc\r\n") false ≡ codes "a b\nc"
 ends_by_crlf = refl
 
--- a CR behind which no LF stands is of the line
+-- a CR that no LF follows is of the line
 cr_alone : unflow (codes "a \rb \r") false ≡ codes "a \rb \r"
 cr_alone = refl
 
--- a line of marks alone is written with the space behind them, and so is one with a space there
+-- a line of marks alone is written with the space after them, and so is one with a space there
 only_marks : unflow (codes ">\n> \n>>\na") false ≡ codes "> \n> \n>> \na"
 only_marks = refl
 
--- the space behind the mark is stuffing, so this line is not soft; the second space makes the next one soft
-space_behind_mark : unflow (codes "> \n>  \n> a") false ≡ codes "> \n>  a"
-space_behind_mark = refl
+-- the space after the mark is stuffing, so this line is not soft; the second space makes the next one soft
+space_after_mark : unflow (codes "> \n>  \n> a") false ≡ codes "> \n>  a"
+space_after_mark = refl
 
 -- ---- the text above a signature
 

@@ -1,22 +1,9 @@
--- How a loop over the lines writes the joined lines, and how std's `join` does.
-use Rattle.std.proofs.Common.{◌≡◌, ℕ, Bool, true, false, List, [], ◌∷◌, ◌++◌, Bor, refl, sym, ap, ◌∙◌, append_assoc}
-use Rattle.std.specs.Prelude.{map, ◌&&◌, if◌then◌else◌}
-use Rattle.std.specs.List.{flat_map, join_by}
+-- How a loop over the lines writes the joined lines.
+use Rattle.std.proofs.Common.{◌≡◌, ℕ, Bool, true, false, List, [], ◌∷◌, ◌++◌, refl, sym, ap, ◌∙◌, append_assoc}
+use Rattle.std.specs.Prelude.{◌&&◌, if◌then◌else◌}
 use Rattle.std.proofs.lemmas.List.{append-nil}
-use Rattle.flowed_text.specs.Pieces.{line_end}
-use Rattle.flowed_text.specs.Flowed.{Quoted, quoted_line, text_of, unspaced, runs_on, put_line, joined, marks, written}
-
--- ---- std's `join`
-
-join_from : (x : List ℕ) (xs : List (Bor (List ℕ))) → x ++ flat_map (λ y. (10 ∷ []) ++ y.now) xs ≡ text_of (x ∷ map (λ l. l.now) xs)
-join_from x [] = append-nil x
-join_from x (y ∷ ys) = ap (λ (t : List ℕ). x ++ (10 ∷ t)) (join_from y.now ys)
-
-pub text_of-join : (xs : List (Bor (List ℕ))) → join_by (λ y. y.now) (10 ∷ []) xs ≡ text_of (map (λ l. l.now) xs)
-text_of-join [] = refl
-text_of-join (x ∷ xs) = join_from x.now xs
-
--- ---- the lines from one on
+use Rattle.flowed_text.specs.Writing.{line_end}
+use Rattle.flowed_text.specs.Flowed.{Quoted, unspaced, runs_on, put_line, joined, marks, written}
 
 -- what is written of lines, the first of which continues the one before it, or does not
 abbrev pub written_from : Bool → Bool → List Quoted → List ℕ
@@ -24,17 +11,17 @@ written_from delsp continues [] = []
 written_from delsp continues (line ∷ more) =
     (if continues then [] else marks line.depth) ++ (line_end delsp line more ++ written_from delsp (runs_on line more) more)
 
--- what is written behind a line of those that follow it
-abbrev behind : List Quoted → List ℕ
-behind [] = []
-behind (line ∷ more) = 10 ∷ written (line ∷ more)
+-- what is written after a line of those that follow it
+abbrev after : List Quoted → List ℕ
+after [] = []
+after (line ∷ more) = 10 ∷ written (line ∷ more)
 
 -- what is written of joined lines without the marks of the first
 abbrev unmarked : List Quoted → List ℕ
 unmarked [] = []
-unmarked (line ∷ more) = line.text ++ behind more
+unmarked (line ∷ more) = line.text ++ after more
 
-written-cons : (line : Quoted) (more : List Quoted) → written (line ∷ more) ≡ marks line.depth ++ (line.text ++ behind more)
+written-cons : (line : Quoted) (more : List Quoted) → written (line ∷ more) ≡ marks line.depth ++ (line.text ++ after more)
 written-cons line [] = rw append-nil refl
 written-cons line (next ∷ more) = append_assoc (marks line.depth) line.text _
 
@@ -55,7 +42,7 @@ one_line : (delsp runs : Bool) (line next first : Quoted) (more rest : List Quot
     ≡ unmarked (put_line delsp runs line (first ∷ rest))
 one_line delsp true line next first more rest continued begun =
     let kept = if delsp then unspaced line.text else line.text in
-    ap (λ t. t ++ written_from delsp true (next ∷ more)) (append-nil kept) ∙ ap (λ t. kept ++ t) continued ∙ sym (append_assoc kept first.text (behind rest))
+    ap (λ t. t ++ written_from delsp true (next ∷ more)) (append-nil kept) ∙ ap (λ t. kept ++ t) continued ∙ sym (append_assoc kept first.text (after rest))
 one_line delsp false line next first more rest continued begun =
     append_assoc line.text (10 ∷ []) (written_from delsp false (next ∷ more)) ∙ ap (λ t. line.text ++ (10 ∷ t)) begun
 
@@ -76,8 +63,3 @@ written_from-begun delsp [] = refl
 written_from-begun delsp (line ∷ more) =
     ap (λ t. marks line.depth ++ t) (written_from-continued delsp (line ∷ more))
     ∙ sym (written-put_line delsp (runs_on line more) line (joined delsp more))
-
--- the lines of a slice, read one by one
-pub map_lines : (lines : List (Bor (List ℕ))) → map (λ l. quoted_line l.now) lines ≡ map quoted_line (map (λ l. l.now) lines)
-map_lines [] = refl
-map_lines (line ∷ more) = ap (λ t. quoted_line line.now ∷ t) (map_lines more)

@@ -1,4 +1,4 @@
--- Flowed text (RFC 3676, section 4). A line is what stands before its LF or CR LF.
+-- Flowed text (RFC 3676, section 4). A line is what precedes its LF or CR LF.
 use Rattle.std.specs.Prelude.{ℕ, ◌-◌, Bool, true, false, not, ◌&&◌, ◌==◌, nat_eq, if◌then◌else◌, List, [], ◌∷◌, ◌++◌, length, take, drop, codes, map, replicate, bytes_eq, take_while}
 use Rattle.std.specs.List.{prefix_len, starts_with, ends_with, join_with_byte}
 use Rattle.kit.specs.Lines.{raw_lines, content}
@@ -18,7 +18,7 @@ pub record Quoted : Type 0 where
   pub depth : ℕ
   pub text : List ℕ
 
--- the text behind one space at its beginning, which is stuffing (section 4.4)
+-- the text after one space at its beginning, which is stuffing (section 4.4)
 abbrev pub unstuffed : List ℕ → List ℕ
 unstuffed text = if starts_with nat_eq text (codes " ") then drop 1 text else text
 
@@ -32,7 +32,7 @@ quoted_line line =
 abbrev pub is_signature : List ℕ → Bool
 is_signature text = bytes_eq text (codes "-- ")
 
--- a line that ends in a space asks for the next one, unless it is the line above a signature (section 4.2)
+-- a line that ends in a space runs on into the next one, unless it is the line above a signature (section 4.2)
 abbrev pub is_soft : List ℕ → Bool
 is_soft text = ends_with nat_eq text (codes " ") && not (is_signature text)
 
@@ -54,12 +54,12 @@ put_line delsp true line (next ∷ more) =
     record { depth = line.depth; text = (if delsp then unspaced line.text else line.text) ++ next.text } ∷ more
 put_line delsp _ line more = line ∷ more
 
--- the lines, from the last to the first: whether a line runs on is asked of the next one as it stood
+-- the lines, from the last to the first: whether a line runs on depends on the next one as it was
 abbrev pub joined : Bool → List Quoted → List Quoted
 joined delsp [] = []
 joined delsp (line ∷ more) = put_line delsp (runs_on line more) line (joined delsp more)
 
--- the quote marks of a depth, and the space behind them
+-- the quote marks of a depth, and the space after them
 abbrev pub marks : ℕ → List ℕ
 marks depth = replicate depth 62 ++ (if depth == 0 then [] else 32 ∷ [])
 

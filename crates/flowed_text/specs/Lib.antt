@@ -1,2 +1,4 @@
+-- What public clauses cite.
 pub mod Flowed
-pub mod Pieces
+-- What only proofs and private functions use.
+pub mod Writing

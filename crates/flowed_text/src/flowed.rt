@@ -1,25 +1,19 @@
 //! Flowed text made whole.
 ghost use Rattle.std.specs.Prelude.{◌≡◌, ◌++◌, IfOk, OnOk, if◌then◌else◌, map, string_bytes};
-ghost use Rattle.flowed_text.specs.Pieces.{break_before, line_end, shown};
-ghost use Rattle.flowed_text.specs.Flowed.{joined, line_texts, marks, quoted_line, runs_on, unflow, unspaced, written};
+ghost use Rattle.flowed_text.specs.Writing.{break_before, line_end, shown};
+ghost use Rattle.flowed_text.specs.Flowed.{line_texts, marks, quoted_line, runs_on, unflow, unspaced};
 
 use crate::quoted::{QuotedLine, is_soft, quoted_line, unspaced};
 use crate::signature::is_signature;
-use kit::{Memory, Text};
+use kit::{Memory, Text, split_text_line};
 use std::alloc::Global;
 
-fn lines_of(alloc: Global, text: &str) -> Result<Vec<&str>, Memory>
-    ensures { IfOk result (λ lines. map (λ l. l.now) lines.items ≡ line_texts text.now) }
+/// Whether a line is joined with the first line of the text that follows it.
+fn runs_on(line: &QuotedLine, rest: &str) -> bool
+    ensures { result ≡ runs_on (shown line.now) (map quoted_line (line_texts rest.now)) }
 {
-    Ok(text.lines().collect(alloc)?)
-}
-
-/// Whether a line is joined with the first of the lines that follow it.
-fn runs_on(line: &QuotedLine, more: &[&str]) -> bool
-    ensures { result ≡ runs_on (shown line.now) (map (λ l. quoted_line l.now) more.now) }
-{
-    match more.first() {
-        Some(next) => {
+    match split_text_line(rest) {
+        Some((next, _further)) => {
             let next = quoted_line(next);
             is_soft(line.text) && line.depth == next.depth && !is_signature(next.text)
         }
@@ -48,49 +42,51 @@ fn push_text(out: &mut String, text: &str, drops_space: bool) -> Result<(), Memo
     Ok(out.push_str(kept)?)
 }
 
-/// Adds the LF between a line and those that follow it.
-fn push_break(out: &mut String, more: &[&str]) -> Result<(), Memory>
-    ensures { OnOk result (string_bytes out.new ≡ string_bytes out.old ++ break_before (map (λ l. quoted_line l.now) more.now)) }
+/// Adds the LF between a line and the text that follows it.
+fn push_break(out: &mut String, rest: &str) -> Result<(), Memory>
+    ensures { OnOk result (string_bytes out.new ≡ string_bytes out.old ++ break_before (map quoted_line (line_texts rest.now))) }
 {
-    if !more.is_empty() {
-        out.push('\n')?;
+    match split_text_line(rest) {
+        Some(_) => Ok(out.push('\n')?),
+        None => Ok(()),
     }
-    Ok(())
 }
 
-/// Adds what follows the marks of a line, up to the next line, and says whether that continues it.
-fn push_end(out: &mut String, line: &QuotedLine, more: &[&str], delsp: bool) -> Result<bool, Memory>
-    ensures runs { IfOk result (λ runs. runs ≡ runs_on (shown line.now) (map (λ l. quoted_line l.now) more.now)) }
-    ensures text { OnOk result (string_bytes out.new ≡ string_bytes out.old ++ line_end delsp (shown line.now) (map (λ l. quoted_line l.now) more.now)) }
+/// Adds what follows the marks of a line, up to the next line, and returns whether that continues it.
+fn push_end(out: &mut String, line: &QuotedLine, rest: &str, delsp: bool) -> Result<bool, Memory>
+    ensures runs { IfOk result (λ runs. runs ≡ runs_on (shown line.now) (map quoted_line (line_texts rest.now))) }
+    ensures text { OnOk result (string_bytes out.new ≡ string_bytes out.old ++ line_end delsp (shown line.now) (map quoted_line (line_texts rest.now))) }
 {
-    let runs = runs_on(line, more);
+    let runs = runs_on(line, rest);
     push_text(out, line.text, runs && delsp)?;
     if !runs {
-        push_break(out, more)?;
+        push_break(out, rest)?;
     }
     Ok(runs)
 }
 
-/// Adds lines, each joined with the next one where it runs on.
-fn push_lines(out: &mut String, lines: &[&str], delsp: bool) -> Result<(), Memory>
-    ensures { OnOk result (string_bytes out.new ≡ string_bytes out.old ++ written (joined delsp (map (λ l. quoted_line l.now) lines.now))) }
+/// Adds the lines of a text, each joined with the next one where it runs on.
+fn push_lines(out: &mut String, text: &str, delsp: bool) -> Result<(), Memory>
+    ensures { OnOk result (string_bytes out.new ≡ string_bytes out.old ++ unflow text.now delsp) }
 {
     let mut continues = false;
-    for i in 0..lines.len() {
-        let line = quoted_line(lines[i]);
+    let mut left = text;
+    while let Some((line, rest)) = split_text_line(left) {
+        let line = quoted_line(line);
         if !continues {
             push_marks(out, line.depth)?;
         }
-        continues = push_end(out, &line, &lines[i + 1..], delsp)?;
+        continues = push_end(out, &line, rest, delsp)?;
+        left = rest;
     }
     Ok(())
 }
 
-/// A flowed text of any length with its soft lines joined (RFC 3676, section 4). Takes memory, and is
-/// `Err` only where there is none.
+/// A flowed text of any length with its soft lines joined (RFC 3676, section 4). Takes memory; `Err` only
+/// when it runs out.
 ///
 /// A line ends by LF, and one CR before it is not of the line. The depth of a line is the number of `>`
-/// that it begins with; behind them one space is stuffing, and the rest is its text. A line whose text
+/// that it begins with; after them one space is stuffing, and the rest is its text. A line whose text
 /// ends in a space is soft, unless the text is `-- `. A soft line is joined with the next line where that
 /// has the same depth and its text is not `-- `; with `delsp`, the parameter DelSp, the space between
 /// them is dropped. Any other soft line keeps its space. Each line is written as its `>`, a space where
@@ -98,8 +94,7 @@ fn push_lines(out: &mut String, lines: &[&str], delsp: bool) -> Result<(), Memor
 pub fn unflow(alloc: Global, text: &Text, delsp: bool) -> Result<Text, Memory>
     ensures { IfOk result (λ whole. whole ≡ unflow text.now delsp) }
 {
-    let lines = lines_of(alloc, text.as_str())?;
     let mut out = String::new(alloc);
-    push_lines(&mut out, &lines, delsp)?;
+    push_lines(&mut out, text.as_str(), delsp)?;
     Ok(Text::from(out))
 }

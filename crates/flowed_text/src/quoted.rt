@@ -9,7 +9,7 @@ use crate::signature::is_signature;
 pub struct QuotedLine<'a> {
     /// How many quote marks, `>`, the line began with.
     pub depth: usize,
-    /// What stands behind them and one space.
+    /// What follows them and one space.
     pub text: &'a str,
 }
 
@@ -43,7 +43,7 @@ pub fn unspaced(text: &str) -> &str
     text.strip_suffix(' ').unwrap_or(text)
 }
 
-/// Whether the text of a line asks to be joined with the next line.
+/// Whether the text of a line is to be joined with the next line.
 pub fn is_soft(text: &str) -> bool
     ensures { result ≡ is_soft text.now }
 {

@@ -15,7 +15,8 @@ pub record AreSpans (length_of start : ℕ → ℕ) (first : ℕ) : Type 0 where
   pub next : (k : ℕ) → first ≤ k → start (k + 1) ≡ start k + length_of k
   pub some : (k : ℕ) → first ≤ k → 1 ≤ length_of k
 
--- The day that comes so many days after the start of the first span lies in the span `found.0`, with `found.1` days of it before.
+-- The day that comes so many days after the start of the first span is in the span `found.0`, with `found.1` days of it
+-- before.
 pub record LiesIn (length_of start : ℕ → ℕ) (first days : ℕ) (found : ℕ × ℕ) : Type 0 where
   pub same : start found.0 + found.1 ≡ start first + days
   pub within : found.1 < length_of found.0

@@ -8,8 +8,8 @@ module _ {C : Type 0} (asked : C → C → ℕ → Type 0) where
   ended_before false clock ended is = refl
   ended_before true clock ended is = inr (refl, is)
 
-  -- what has become of a clock stays so, where what ended the run is told in other words
-  pub told_otherwise : (needed : Bool) (before after : C) (P Q : Type 0) → (P → Q) → AsksClock asked needed before after P → AsksClock asked needed before after Q
-  told_otherwise false before after P Q f is = is
-  told_otherwise true before after P Q f (inl once) = inl once
-  told_otherwise true before after P Q f (inr ended) = inr (ended.0, f ended.1)
+  -- what has become of a clock is so too where a weaker statement says what ended the run
+  pub AsksClock-weaker : (needed : Bool) (before after : C) (P Q : Type 0) → (P → Q) → AsksClock asked needed before after P → AsksClock asked needed before after Q
+  AsksClock-weaker false before after P Q f is = is
+  AsksClock-weaker true before after P Q f (inl once) = inl once
+  AsksClock-weaker true before after P Q f (inr ended) = inr (ended.0, f ended.1)

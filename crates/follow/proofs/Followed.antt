@@ -1,14 +1,15 @@
 -- The mailbox that a command finds has the mails in their order of arrival.
 use Rattle.std.proofs.Common.{◌≡◌, ℕ, ◌+◌, max, List, [], ◌∷◌, ◌++◌, map, ap, sym, ◌∙◌, arith, append_assoc}
 use Rattle.std.proofs.lemmas.List.{append-nil, map-append}
-use Rattle.follow.specs.declared.card.Card.{Card}
-use Rattle.mailbox_model.specs.Lists.{sorted_by}
-use Rattle.follow.specs.Mailbox.{Item, Mailbox, item, after_all, mail_of, mail_cmp, arrivals}
+use Rattle.follow.specs.declared.card.PlainCard.{PlainCard}
+use Rattle.lists.specs.Sorted.{sorted_by}
+use Rattle.follow.specs.Mailbox.{Item, Mailbox, item, after_all, mail_of, mail_cmp}
+use Rattle.follow.specs.Arrivals.{arrivals}
 use Rattle.follow.specs.Mailbox.Change.{Arrive}
 use Rattle.follow.specs.Lists.{list, list_of}
 use Rattle.follow.specs.Outcome.{followed}
 
-arrived : (m : Mailbox) (cards : List Card) → map mail_of (after_all m (map Arrive cards)).items ≡ map mail_of m.items ++ arrivals m.next_uid m.now cards
+arrived : (m : Mailbox) (cards : List PlainCard) → map mail_of (after_all m (map Arrive cards)).items ≡ map mail_of m.items ++ arrivals m.next_uid m.now cards
 arrived m [] = sym (append-nil (map mail_of m.items))
 arrived m (card ∷ cards) =
     let next : Item = item m.next_uid m.now card in
@@ -18,7 +19,7 @@ arrived m (card ∷ cards) =
     ∙ append_assoc (map mail_of m.items) (mail_of next ∷ []) (arrivals (m.next_uid + 1) m.now cards)
 
 -- so its list is that of the arrivals in mail order
-pub list-followed : (me : List ℕ) (at : ℕ) (cards : List Card) → list (followed me at cards) ≡ list_of (sorted_by mail_cmp (arrivals 1 at cards))
+pub list-followed : (me : List ℕ) (at : ℕ) (cards : List PlainCard) → list (followed me at cards) ≡ list_of (sorted_by mail_cmp (arrivals 1 at cards))
 list-followed me at cards =
     let moment : max 0 at ≡ at = omega arith in
     let start : Mailbox = record { me = me; now = max 0 at; next_uid = 1; items = [] } in

@@ -1,18 +1,16 @@
 -- Lemmas of this crate, and rows that compute.
 pub mod Arrivals
+pub mod CardIds
 pub mod CivilLemmas
 mod DateRows
 pub mod Clocks
-pub mod Distinct
 pub mod Followed
-pub mod ListLemmas
 pub mod NineLines
 pub mod PlainBytes
 pub mod PlainCards
 pub mod Ranks
 pub mod Refused
 mod Rows
-pub mod Sorted
 pub mod Taken
 pub mod TrialNumbers
 pub mod WordLaws

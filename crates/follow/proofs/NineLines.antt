@@ -2,9 +2,9 @@
 use Rattle.std.proofs.Common.{◌≡◌, ℕ, ◌&&◌, if◌then◌else◌, List, [], ◌∷◌, length, map, get_or, refl, sym, ◌∙◌, arith, true, false, None, Bor}
 use Rattle.follow.specs.Plain.{is_frame, is_to, read_card, card_of}
 
--- the line at a place
+-- the line at an index
 abbrev line : List (Bor (List ℕ)) → ℕ → List ℕ
-line lines place = (get_or lines place (record { ref_ptr = (0, 0); now = [] })).now
+line lines index = (get_or lines index (record { ref_ptr = (0, 0); now = [] })).now
 
 card_of_nine : (me : List ℕ) (lines : List (Bor (List ℕ))) → length lines ≡ 9 → card_of me (map (λ l. l.now) lines)
     ≡ (if is_frame (line lines 0) (line lines 5) (line lines 6) (line lines 8) && is_to me (line lines 2)
@@ -21,7 +21,7 @@ card_of_nine me (a ∷ b ∷ c ∷ d ∷ e ∷ f ∷ g ∷ h ∷ []) nine = absu
 card_of_nine me (a ∷ b ∷ c ∷ d ∷ e ∷ f ∷ g ∷ h ∷ i ∷ []) nine = refl
 card_of_nine me (a ∷ b ∷ c ∷ d ∷ e ∷ f ∷ g ∷ h ∷ i ∷ j ∷ more) nine = absurd (omega arith)
 
--- nine lines of a plain frame, to oneself, have the card that the other four tell
+-- nine lines of a plain frame, to oneself, have the card of the other four
 pub card_of_read : (me : List ℕ) (lines : List (Bor (List ℕ))) → length lines ≡ 9 → is_frame (line lines 0) (line lines 5) (line lines 6) (line lines 8) ≡ true → is_to me (line lines 2) ≡ true
     → read_card me (line lines 1) (line lines 3) (line lines 4) (line lines 7) ≡ card_of me (map (λ l. l.now) lines)
 card_of_read me lines nine frame to = sym (card_of_nine me lines nine ∙ rw (frame, to) refl)

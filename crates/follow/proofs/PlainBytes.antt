@@ -62,7 +62,7 @@ plain_text_utf8 bs h =
     let bytes = and_parts _ _ trimmed.0 in
     text_utf8 bs bytes.1
 
--- a byte of a name: one of a word, or what stands between words
+-- a byte of a name: one of a word, or the space between words
 is_name_byte : ℕ → Bool
 is_name_byte b = b == 32 || is_ascii_alphanumeric b
 

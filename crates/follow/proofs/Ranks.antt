@@ -1,4 +1,4 @@
--- The places of chats in the list.
+-- The order of the list.
 use Rattle.std.proofs.Common.{◌≡◌, ◌≢◌, ◌≤◌, ◌∙◌, refl, sym, ap, rules, ℕ, false, List, [], ◌∷◌, ◌++◌, map, reverse, Option, Some, None}
 use Rattle.std.specs.declared.cmp.Ordering.{Ordering}
 use Rattle.std.specs.declared.cmp.Ordering.TheVariants.{Equal}
@@ -12,19 +12,19 @@ use Rattle.std.proofs.lemmas.List.{map-append}
 use Rattle.std.proofs.lemmas.List.Elements.{All-nil, All-cons, All-map, All-weaker}
 use Rattle.std.proofs.lemmas.Map.Lookups.{exact_bytes}
 use Rattle.std.proofs.lemmas.Slice.Eq.{bytes_eq-Decides}
-use Rattle.follow.specs.declared.list.ListRow.{ListRow}
+use Rattle.follow.specs.declared.list.PlainRow.{PlainRow}
 use Rattle.follow.specs.declared.list.Rank.{Rank}
 use Rattle.follow.specs.declared.mail.Mail.{Mail}
 use Rattle.follow.specs.Lists.{is_from, last_where, latest_cmp, list_row, row_cmp}
-use Rattle.mailbox_model.specs.Lists.{sorted_by}
-use Rattle.follow.proofs.ListLemmas.{All-fold, IfSome-find}
-use Rattle.follow.proofs.Sorted.{insert_entry-sorted_by, keyed, then_Equal}
+use Rattle.lists.specs.Sorted.{sorted_by}
+use Rattle.lists.proofs.Elements.{All-fold, IfSome-find}
+use Rattle.lists.proofs.Sorted.{insert_entry-sorted_by, keyed, then_Equal}
 
--- the place of a chat in the list
-abbrev pub rank_of : ListRow → Rank
+-- what orders a chat
+abbrev pub rank_of : PlainRow → Rank
 rank_of row = record { last = record { 0 = row.last }; address = row.address }
 
--- the order that is derived for places
+-- the order that is derived for these
 abbrev pub rank_cmp : Rank → Rank → Ordering
 rank_cmp a b = ordering_then (option_cmp nat_cmp b.last.0 a.last.0) (slice_cmp nat_cmp a.address b.address)
 
@@ -35,8 +35,8 @@ latest_cmp-option_cmp None (Some b) = refl
 latest_cmp-option_cmp (Some a) None = refl
 latest_cmp-option_cmp (Some a) (Some b) = refl
 
--- chats are in the order of their places
-rank_cmp-row_cmp : (a b : ListRow) → rank_cmp (rank_of a) (rank_of b) ≡ row_cmp a b
+-- it is the order of the chats
+rank_cmp-row_cmp : (a b : PlainRow) → rank_cmp (rank_of a) (rank_of b) ≡ row_cmp a b
 rank_cmp-row_cmp a b = ap (λ o. ordering_then o (slice_cmp nat_cmp a.address b.address)) (latest_cmp-option_cmp a.last b.last)
 
 -- bytes that fail the test differ
@@ -44,17 +44,17 @@ bytes_eq-apart : (xs ys : List ℕ) → bytes_eq xs ys ≡ false → ys ≢ xs
 bytes_eq-apart xs ys apart same = search (rules, bytes_eq-Decides)
 
 -- chats with two addresses do not tie in the list
-row_cmp-apart : (a b : ListRow) → bytes_eq b.address a.address ≡ false → row_cmp a b ≢ Equal
+row_cmp-apart : (a b : PlainRow) → bytes_eq b.address a.address ≡ false → row_cmp a b ≢ Equal
 row_cmp-apart a b apart tie = bytes_eq-apart b.address a.address apart (exact_bytes a.address b.address (then_Equal (latest_cmp a.last b.last) _ tie))
 
--- one more chat is put at its place in the list
+-- one more chat is inserted in the list
 pub rows-insert : (mails : List Mail) (addresses : List (List ℕ)) (address : List ℕ) → All (λ other. bytes_eq other address ≡ false) addresses → let row = list_row mails address in
     insert_entry rank_cmp (keyed rank_of (sorted_by row_cmp (map (list_row mails) addresses))) (rank_of row) row
     ≡ keyed rank_of (sorted_by row_cmp (map (list_row mails) (addresses ++ address ∷ [])))
 rows-insert mails addresses address apart =
     let row = list_row mails address in
     let rows = map (list_row mails) addresses in
-    let New : ListRow → Type 0 = λ other. row_cmp row other ≢ Equal in
+    let New : PlainRow → Type 0 = λ other. row_cmp row other ≢ Equal in
     let new : All New rows =
     All-map New (list_row mails) addresses
     (All-weaker (λ other. bytes_eq other address ≡ false) (λ other. New (list_row mails other)) (λ other. row_cmp-apart row (list_row mails other)) addresses apart) in

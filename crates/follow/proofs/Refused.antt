@@ -6,7 +6,8 @@ use Rattle.follow.specs.declared.status.Refusal.{Refusal}
 use Rattle.follow.specs.declared.status.Refusal.TheVariants as refusal
 use Rattle.follow.specs.declared.status.Status.{Status}
 use Rattle.follow.specs.declared.status.Status.TheVariants as status
-use Rattle.follow.specs.Outcome.{Agrees, IsOutcome, PutsAnswer}
+use Rattle.follow.specs.Outcome.{Agrees, PutsAnswer}
+use Rattle.follow.specs.Replies.{IsOutcome}
 use Rattle.follow.specs.Statuses.{status_of}
 
 -- a refusal that came early has its status
@@ -41,7 +42,7 @@ agrees_with Z (Err e) refusal.Unbuilt is = (let same : refusal.Unbuilt ≡ e = c
 
 -- the status is that of the outcome
 pub refused_agrees : (Z : Type 0) (outcome : Result (List ℕ) Refusal) (why : Refusal) (s : Status) → s ≡ status_of why → IsOutcome {Z = Z} outcome (Err why) → Agrees outcome s
-refused_agrees Z outcome why s is told = subst (Agrees outcome) (sym is) (agrees_with Z outcome why told)
+refused_agrees Z outcome why s is replied = subst (Agrees outcome) (sym is) (agrees_with Z outcome why replied)
 
 -- Where nothing failed, an answer was put whole, or memory ran out.
 pub answered : (old new : Option (List ℕ)) (outcome : Result (List ℕ) Refusal) (text : List ℕ) (s : Status) → outcome ≡ Ok text

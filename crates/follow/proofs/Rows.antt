@@ -28,7 +28,7 @@ one_plain_mail = refl
 empty_mbox : outcome words false [] 0 ≡ Ok []
 empty_mbox = refl
 
--- two senders, the latest first; a date behind the moment counts as the moment
+-- two senders, the latest first; a date after the moment counts as the moment
 two_chats : outcome words false (first ++ mail (codes "ann@x.org") (codes "Wed, 01 May 2030 10:00:00") (codes "a1@x.org") (codes "Late")) 0
     ≡ Ok (codes "single:ann@x.org | ann@x.org | fresh 1 | 2024-05-01 12:00 | Late\nsingle:bob@x.org | Bob | fresh 1 | 2024-05-01 10:00 | Hi\n")
 unfolding moment days_from_civil day_count days_of_years days_of_months time_text civil_date span_and_rest digits chars encode

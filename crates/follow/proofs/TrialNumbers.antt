@@ -14,8 +14,8 @@ first_digit c cs e = grind arith
 digit_before : (c : ℕ) (cs : List ℕ) → IsInRange 48 57 c → list_all is_ascii_digit cs ≡ true → list_all is_ascii_digit (c ∷ cs) ≡ true
 digit_before c cs k e = grind arith
 
-tells : IsDigitsTest (λ ds. list_all is_ascii_digit ds ≡ true)
-tells = record { empty = refl; parts = first_digit; more = digit_before }
+digits_test : IsDigitsTest (λ ds. list_all is_ascii_digit ds ≡ true)
+digits_test = record { empty = refl; parts = first_digit; more = digit_before }
 
 known : {E : Type 0} (word : List ℕ) (r : Result ℕ E) → list_all is_ascii_digit word ≡ true → length word ≤ 20
     → OkIff r ((0 < length word) × (digits_value 10 word < 2 ^ 64)) (digits_value 10 word) → result_ok r ≡ trial_of word
@@ -24,4 +24,4 @@ known word (Err e) digits short is = grind arith
 
 pub trial_known : {E : Type 0} (word : List ℕ) (r : Result ℕ E) → list_all is_ascii_digit word ≡ true → length word ≤ 20
     → ParsesUnsigned 64 10 word r → result_ok r ≡ trial_of word
-trial_known word r digits short is = known word r digits short (parse_digits (numerals_by_value _ tells) 64 word r is digits)
+trial_known word r digits short is = known word r digits short (parse_digits (numerals_by_value _ digits_test) 64 word r is digits)

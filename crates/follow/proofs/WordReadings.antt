@@ -5,7 +5,7 @@ use Rattle.std.specs.List.{starts_with}
 use Rattle.std.proofs.lemmas.Bool.Decides.{Decides-eqb}
 use Rattle.std.proofs.lemmas.Option.{option_and_then_some}
 use Rattle.std.proofs.lemmas.Slice.Eq.{bytes_eq-Decides, starts_is}
-use Rattle.kit.specs.Cuts.{behind}
+use Rattle.kit.specs.Cuts.{strip_prefix}
 use Rattle.follow.specs.declared.words.Command.{Command}
 use Rattle.follow.specs.declared.words.Command.TheVariants as command
 use Rattle.follow.specs.declared.words.Request.{Request}
@@ -29,22 +29,23 @@ same word wanted e = (bytes_eq-Decides word wanted).0 e
 some_pair : (a : List ℕ) (us : List (List ℕ)) (b : List ℕ) (vs : List (List ℕ)) → ◌≡◌ {A = Option (List ℕ × List (List ℕ))} (Some (a, us)) (Some (b, vs)) → (a ≡ b) × (us ≡ vs)
 some_pair a us b vs e = (let both : ◌≡◌ {A = List ℕ × List (List ℕ)} (a, us) (b, vs) = cc in (ap (λ p. p.0) both, ap (λ p. p.1) both))
 
-what_is_behind : (front bytes rest : List ℕ) → behind front bytes ≡ Some rest → bytes ≡ front ++ rest
-what_is_behind front bytes rest e = decided (starts_with nat_eq bytes front) refl e
+strip_prefix_is : (bytes prefix rest : List ℕ) → strip_prefix bytes prefix ≡ Some rest → bytes ≡ prefix ++ rest
+strip_prefix_is bytes prefix rest e = decided (starts_with nat_eq bytes prefix) refl e
   where
-    decided : (t : Bool) → starts_with nat_eq bytes front ≡ t → (if t then Some (drop (length front) bytes) else None) ≡ Some rest → bytes ≡ front ++ rest
+    decided : (t : Bool) → starts_with nat_eq bytes prefix ≡ t → (if t then Some (drop (length prefix) bytes) else None) ≡ Some rest → bytes ≡ prefix ++ rest
     decided false is e = absurd cc
-    decided true is e = (let cut : drop (length front) bytes ≡ rest = cc in (starts_is Decides-eqb bytes front true (sym is)).0 refl ∙ ap (λ r. front ++ r) cut)
+    decided true is e = (let cut : drop (length prefix) bytes ≡ rest = cc in (starts_is Decides-eqb bytes prefix true (sym is)).0 refl ∙ ap (λ r. prefix ++ r) cut)
 
 joined_is : (name word text : List ℕ) → joined name word ≡ Some text → word ≡ name ++ codes "=" ++ text
 joined_is name word text e =
-    option_and_then_some (behind (codes "=")) (behind name word) text e (λ rest front equals. what_is_behind name word rest front ∙ ap (λ r. name ++ r) (what_is_behind (codes "=") rest text equals) ∙ sym (append_assoc name (codes "=") text))
+    option_and_then_some (λ rest. strip_prefix rest (codes "=")) (strip_prefix word name) text e
+    (λ rest named equals. strip_prefix_is word name rest named ∙ ap (λ r. name ++ r) (strip_prefix_is rest (codes "=") text equals) ∙ sym (append_assoc name (codes "=") text))
 
--- an option, and what stands behind it
+-- an option, and the words after it
 record Parts (name : List ℕ) (words : List (List ℕ)) (text : List ℕ) (rest : List (List ℕ)) : Type 0 where
-  front : List (List ℕ)
-  written : IsOption name text front
-  is : words ≡ front ++ rest
+  first : List (List ℕ)
+  written : IsOption name text first
+  is : words ≡ first ++ rest
 
 value_apart : (words : List (List ℕ)) (text : List ℕ) (rest : List (List ℕ)) → value_at words ≡ Some (text, rest) → (is_value text ≡ true) × (words ≡ text ∷ rest)
 value_apart [] text rest e = absurd cc
@@ -62,19 +63,19 @@ option_is name (word ∷ words) text rest e = decided (bytes_eq word name) refl 
         → if◌then◌else◌ {A = Option (List ℕ × List (List ℕ))} t (value_at words) (option_map (λ value. (value, words)) (joined name word)) ≡ Some (text, rest)
         → Parts name (word ∷ words) text rest
     decided true is e = (let apart = value_apart words text rest e in
-        record { front = name ∷ text ∷ []; written = Apart text apart.0; is = rw (same word name is) (rw apart.1 refl) })
+        record { first = name ∷ text ∷ []; written = Apart text apart.0; is = rw (same word name is) (rw apart.1 refl) })
     decided false is e = one_word (joined name word) refl e
       where
         one_word : (j : Option (List ℕ)) → joined name word ≡ j → option_map {U = List ℕ × List (List ℕ)} (λ value. (value, words)) j ≡ Some (text, rest) → Parts name (word ∷ words) text rest
         one_word None j e = absurd cc
         one_word (Some value) j e = (let both = some_pair value words text rest e in
-            record { front = (name ++ codes "=" ++ text) ∷ []; written = Joined text; is = ap (λ w. w ∷ words) (joined_is name word value j ∙ ap (λ t. name ++ codes "=" ++ t) both.0) ∙ ap (λ ws. (name ++ codes "=" ++ text) ∷ ws) both.1 })
+            record { first = (name ++ codes "=" ++ text) ∷ []; written = Joined text; is = ap (λ w. w ∷ words) (joined_is name word value j ∙ ap (λ t. name ++ codes "=" ++ t) both.0) ∙ ap (λ ws. (name ++ codes "=" ++ text) ∷ ws) both.1 })
 
--- the options, and what stands behind them
-record Front (words : List (List ℕ)) (l : as_written.Line) (me : List ℕ) (at : Option ℕ) : Type 0 where
-  front : List (List ℕ)
-  written : AreOptions me at front
-  is : words ≡ front ++ l.rest
+-- the options, and the words after them
+record Options (words : List (List ℕ)) (l : as_written.Line) (me : List ℕ) (at : Option ℕ) : Type 0 where
+  first : List (List ℕ)
+  written : AreOptions me at first
+  is : words ≡ first ++ l.rest
 
 moment_given : (text : List ℕ) (at : Option ℕ) → moment_if_given (Some text) ≡ Some at → (n : ℕ) × (moment_of text ≡ Some n) × (Some n ≡ at)
 moment_given text at e = from (moment_of text) refl e
@@ -85,21 +86,21 @@ moment_given text at e = from (moment_of text) refl e
 
 module _ (words : List (List ℕ)) (me : List ℕ) (at : Option ℕ) where
   abbrev Means : as_written.Line → Type 0
-  Means l = own_address l.me ≡ Some me → moment_if_given l.at ≡ Some at → Front words l me at
+  Means l = own_address l.me ≡ Some me → moment_if_given l.at ≡ Some at → Options words l me at
 
   me_then_at : (m : List ℕ × List (List ℕ)) → option_at (codes "--me") words ≡ Some m → (o : Option (List ℕ × List (List ℕ))) → option_at (codes "--at") m.1 ≡ o → Means (me_first m o)
   me_then_at m is None no_at me_means at_means =
       let us = option_is (codes "--me") words m.0 m.1 is in
       let none : None ≡ at = cc in
-      record { front = us.front; written = subst (λ a. AreOptions me a us.front) none (Alone us.front (Me m.0 us.front us.written me_means)); is = us.is }
+      record { first = us.first; written = subst (λ a. AreOptions me a us.first) none (Alone us.first (Me m.0 us.first us.written me_means)); is = us.is }
   me_then_at m is (Some a) has_at me_means at_means =
       let us = option_is (codes "--me") words m.0 m.1 is in
       let vs = option_is (codes "--at") m.1 a.0 a.1 has_at in
       let n = moment_given a.0 at at_means in
       record {
-        front = us.front ++ vs.front;
-        written = subst (λ t. AreOptions me t (us.front ++ vs.front)) n.2 (MeFirst n.0 us.front vs.front (Me m.0 us.front us.written me_means) (At a.0 vs.front vs.written n.1));
-        is = us.is ∙ ap (λ ws. us.front ++ ws) vs.is ∙ sym (append_assoc us.front vs.front a.1);
+        first = us.first ++ vs.first;
+        written = subst (λ t. AreOptions me t (us.first ++ vs.first)) n.2 (MeFirst n.0 us.first vs.first (Me m.0 us.first us.written me_means) (At a.0 vs.first vs.written n.1));
+        is = us.is ∙ ap (λ ws. us.first ++ ws) vs.is ∙ sym (append_assoc us.first vs.first a.1);
       }
 
   at_then_me : (a : List ℕ × List (List ℕ)) → option_at (codes "--at") words ≡ Some a → (m : List ℕ × List (List ℕ)) → option_at (codes "--me") a.1 ≡ Some m → Means (line m.0 (Some a.0) m.1)
@@ -108,9 +109,9 @@ module _ (words : List (List ℕ)) (me : List ℕ) (at : Option ℕ) where
       let vs = option_is (codes "--me") a.1 m.0 m.1 is in
       let n = moment_given a.0 at at_means in
       record {
-        front = us.front ++ vs.front;
-        written = subst (λ t. AreOptions me t (us.front ++ vs.front)) n.2 (AtFirst n.0 us.front vs.front (At a.0 us.front us.written n.1) (Me m.0 vs.front vs.written me_means));
-        is = us.is ∙ ap (λ ws. us.front ++ ws) vs.is ∙ sym (append_assoc us.front vs.front m.1);
+        first = us.first ++ vs.first;
+        written = subst (λ t. AreOptions me t (us.first ++ vs.first)) n.2 (AtFirst n.0 us.first vs.first (At a.0 us.first us.written n.1) (Me m.0 vs.first vs.written me_means));
+        is = us.is ∙ ap (λ ws. us.first ++ ws) vs.is ∙ sym (append_assoc us.first vs.first m.1);
       }
 
   options_are : (l : as_written.Line) → line_of words ≡ Some l → Means l
@@ -203,8 +204,8 @@ reads_written words r e =
     option_and_then_some _ (command_of l.rest) r e3 (λ c c_is e4.
     let q : Request = record { me = me; at = at; command = c } in
     let read : q ≡ r = cc in
-    let front = options_are words me at l is me_means at_means in
-    subst (λ r. IsRequest r words) read (subst (IsRequest q) (sym front.is) (Line q front.front l.rest front.written (command_is l.rest c c_is)))))))
+    let options = options_are words me at l is me_means at_means in
+    subst (λ r. IsRequest r words) read (subst (IsRequest q) (sym options.is) (Line q options.first l.rest options.written (command_is l.rest c c_is)))))))
 
 -- Words are written as no request exactly where they read as none.
 pub unread : (words : List (List ℕ)) → request words ≡ None → IsNoRequest words

@@ -4,12 +4,12 @@ use Rattle.std.specs.List.{list_all, list_any, ends_with}
 use Rattle.std.specs.Char.{is_ascii_alphabetic, is_ascii_digit}
 use Rattle.mail_date.specs.Moment.{moment}
 
--- in a form one of D Y h m s stands for a digit, another letter for a letter, and every other byte for itself
+-- in a form one of D Y h m s means a digit, another letter a letter, and every other byte itself
 abbrev pub fits : ℕ → ℕ → Bool
-fits place byte =
-    if list_any (λ c. c == place) (codes "DYhms") then is_ascii_digit byte
-    else if is_ascii_alphabetic place then is_ascii_alphabetic byte
-    else place == byte
+fits sign byte =
+    if list_any (λ c. c == sign) (codes "DYhms") then is_ascii_digit byte
+    else if is_ascii_alphabetic sign then is_ascii_alphabetic byte
+    else sign == byte
 
 abbrev pub has_form : List ℕ → List ℕ → Bool
 has_form form bytes = (length form == length bytes) && list_all (λ p. fits p.0 p.1) (zip form bytes)

@@ -34,7 +34,7 @@ pub data IsCommand : Command → List (List ℕ) → Type 0 where
   InfoLast : (id : List ℕ) → is_value id ≡ true → IsCommand (command.Updates id true) (codes "updates" ∷ id ∷ codes "--info" ∷ [])
   MakeTrial : (text : List ℕ) (number : ℕ) → is_value text ≡ true → trial_of text ≡ Some number → IsCommand (command.Trial number) (codes "trial" ∷ text ∷ [])
 
--- a request: the options, and a command behind them
+-- a request: the options, and a command after them
 pub data IsRequest : Request → List (List ℕ) → Type 0 where
   Line : (r : Request) (us vs : List (List ℕ)) → AreOptions r.me r.at us → IsCommand r.command vs → IsRequest r (us ++ vs)
 

@@ -1,8 +1,7 @@
--- What a run answers, by its words and by what its devices tell.
+-- What public clauses cite.
 pub mod Options
 pub mod Dates
 pub mod Words
-pub mod Views
 pub mod Grammar
 pub mod Plain
 pub mod Mailbox
@@ -10,3 +9,7 @@ pub mod Lists
 pub mod Texts
 pub mod Statuses
 pub mod Outcome
+-- What only proofs and private functions use.
+pub mod Views
+pub mod Arrivals
+pub mod Replies

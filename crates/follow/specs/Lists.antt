@@ -1,14 +1,14 @@
--- The list of chats. A mail of a plain mbox is to oneself alone and from another, so its chat is the one with its sender;
--- it is shown, received and unseen.
+-- The list of chats. A mail of a plain mbox is to oneself alone and from another, so its chat is the one with its
+-- sender; it is shown, received and unseen.
 use Rattle.std.specs.Prelude.{ℕ, Bool, ◌&&◌, nat_lt, bytes_eq, List, [], length, map, reverse, find, count_by, Option, Some, None, option_map, unwrap_or}
 use Rattle.std.specs.declared.cmp.Ordering.{Ordering}
 use Rattle.std.specs.declared.cmp.Ordering.TheVariants.{Less, Equal, Greater}
 use Rattle.std.specs.Ordering.{nat_cmp, ordering_then}
 use Rattle.std.specs.Cmp.Lexicographic.{slice_cmp}
-use Rattle.kit.specs.Distinct.{each_once}
-use Rattle.mailbox_model.specs.Lists.{sorted_by}
+use Rattle.lists.specs.Distinct.{each_once}
+use Rattle.lists.specs.Sorted.{sorted_by}
 use Rattle.follow.specs.declared.mail.Mail.{Mail}
-use Rattle.follow.specs.declared.list.ListRow.{ListRow}
+use Rattle.follow.specs.declared.list.PlainRow.{PlainRow}
 use Rattle.follow.specs.Mailbox.{Mailbox, present}
 
 -- the last that passes a test
@@ -30,7 +30,7 @@ body_of None = []
 body_of (Some mail) = mail.card.text
 
 -- the chat with an address: its fresh mails, and the last of those that are shown
-abbrev pub list_row : List Mail → List ℕ → ListRow
+abbrev pub list_row : List Mail → List ℕ → PlainRow
 list_row mails address =
     let last = last_where (is_from address) mails in
     record {
@@ -49,11 +49,11 @@ latest_cmp (Some a) None = Less
 latest_cmp (Some a) (Some b) = nat_cmp b a
 
 -- by the date of the last mail that is shown, and then by the key
-abbrev pub row_cmp : ListRow → ListRow → Ordering
+abbrev pub row_cmp : PlainRow → PlainRow → Ordering
 row_cmp a b = ordering_then (latest_cmp a.last b.last) (slice_cmp nat_cmp a.address b.address)
 
-abbrev pub list_of : List Mail → List ListRow
+abbrev pub list_of : List Mail → List PlainRow
 list_of mails = sorted_by row_cmp (map (list_row mails) (each_once (map (λ mail. mail.card.from) mails)))
 
-abbrev pub list : Mailbox → List ListRow
+abbrev pub list : Mailbox → List PlainRow
 list m = list_of (present m)

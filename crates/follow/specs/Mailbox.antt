@@ -3,15 +3,15 @@ use Rattle.std.specs.Prelude.{ℕ, ◌+◌, min, max, List, [], ◌∷◌, ◌++
 use Rattle.std.specs.declared.cmp.Ordering.{Ordering}
 use Rattle.std.specs.Ordering.{nat_cmp, ordering_then}
 use Rattle.std.specs.Cmp.Lexicographic.{slice_cmp}
-use Rattle.mailbox_model.specs.Lists.{sorted_by}
-use Rattle.follow.specs.declared.card.Card.{Card}
+use Rattle.lists.specs.Sorted.{sorted_by}
+use Rattle.follow.specs.declared.card.PlainCard.{PlainCard}
 use Rattle.follow.specs.declared.mail.Mail.{Mail}
 
 -- one mail of the mailbox, and the moment of its arrival
 pub record Item : Type 0 where
   pub uid : ℕ
   pub arrival : ℕ
-  pub card : Card
+  pub card : PlainCard
 
 pub record Mailbox : Type 0 where
   pub me : List ℕ
@@ -23,10 +23,10 @@ abbrev pub empty_mailbox : List ℕ → Mailbox
 empty_mailbox me = record { me = me; now = 0; next_uid = 1; items = [] }
 
 pub data Change : Type 0 where
-  Arrive : (card : Card) → Change
+  Arrive : (card : PlainCard) → Change
   At : (moment : ℕ) → Change
 
-abbrev pub item : ℕ → ℕ → Card → Item
+abbrev pub item : ℕ → ℕ → PlainCard → Item
 item uid arrival card = record { uid = uid; arrival = arrival; card = card }
 
 abbrev pub after : Mailbox → Change → Mailbox
@@ -49,8 +49,3 @@ mail_cmp a b =
 -- The cards in mail order. No two mails of a plain mbox have one id, so each of them is present.
 abbrev pub present : Mailbox → List Mail
 present m = sorted_by mail_cmp (map mail_of m.items)
-
--- the mails of cards that arrive at a moment, one after the other, the first with this uid
-abbrev pub arrivals : ℕ → ℕ → List Card → List Mail
-arrivals uid moment [] = []
-arrivals uid moment (card ∷ cards) = mail_of (item uid moment card) ∷ arrivals (uid + 1) moment cards

@@ -1,12 +1,12 @@
--- The words of the command line: options, and a command behind them.
+-- The words of the command line: options, and a command after them.
 use Rattle.std.specs.Prelude.{ℕ, Bool, true, false, ◌||◌, not, nat_eq, nat_le, nat_lt, ◌^◌, if◌then◌else◌, bytes_eq, codes, List, [], ◌∷◌, Option, Some, None, option_map}
 use Rattle.std.specs.List.{starts_with}
-use Rattle.kit.specs.Cuts.{behind}
+use Rattle.kit.specs.Cuts.{strip_prefix}
 use Rattle.kit.specs.Moments.{last_moment}
 use Rattle.kit.specs.Options.{◌>>=◌}
 use Rattle.mail_address.specs.declared.person.Person.{Person}
 use Rattle.mail_address.specs.People.{people}
-use Rattle.mail_date.specs.Digits.{number}
+use Rattle.kit.specs.Numbers.{number}
 use Rattle.follow.specs.declared.words.Command.{Command}
 use Rattle.follow.specs.declared.words.Command.TheVariants as command
 use Rattle.follow.specs.declared.words.Request.{Request}
@@ -15,22 +15,22 @@ use Rattle.follow.specs.declared.words.Request.{Request}
 abbrev pub is_value : List ℕ → Bool
 is_value word = not (starts_with nat_eq word (codes "-")) || bytes_eq word (codes "-")
 
--- a value that stands first, and the words behind it
+-- a value that is first, and the words after it
 abbrev pub value_at : List (List ℕ) → Option (List ℕ × List (List ℕ))
 value_at [] = None
 value_at (word ∷ words) = if is_value word then Some (word, words) else None
 
 -- the value that one word gives to an option, as `--name=T`
 abbrev pub joined : List ℕ → List ℕ → Option (List ℕ)
-joined name word = behind name word >>= behind (codes "=")
+joined name word = strip_prefix word name >>= λ rest. strip_prefix rest (codes "=")
 
--- the value of an option that stands first, as `--name=T` or as `--name V`, and the words behind it
+-- the value of an option that is first, as `--name=T` or as `--name V`, and the words after it
 abbrev pub option_at : List ℕ → List (List ℕ) → Option (List ℕ × List (List ℕ))
 option_at name [] = None
 option_at name (word ∷ words) =
     if bytes_eq word name then value_at words else option_map (λ value. (value, words)) (joined name word)
 
--- what the options say, and the words behind them
+-- what the options say, and the words after them
 pub record Line : Type 0 where
   pub me : List ℕ
   pub at : Option (List ℕ)
@@ -39,12 +39,12 @@ pub record Line : Type 0 where
 abbrev pub line : List ℕ → Option (List ℕ) → List (List ℕ) → Line
 line me at rest = record { me = me; at = at; rest = rest }
 
--- `--at` stands behind `--me`, or nowhere
+-- `--at` follows `--me`, or is missing
 abbrev pub me_first : List ℕ × List (List ℕ) → Option (List ℕ × List (List ℕ)) → Line
 me_first me None = line me.0 None me.1
 me_first me (Some at) = line me.0 (Some at.0) at.1
 
--- `--at` stands first, or not
+-- `--at` is first, or not
 abbrev pub line_from : List (List ℕ) → Option (List ℕ × List (List ℕ)) → Option Line
 line_from words (Some at) = option_map (λ me. line me.0 (Some at.0) me.1) (option_at (codes "--me") at.1)
 line_from words None = option_map (λ me. me_first me (option_at (codes "--at") me.1)) (option_at (codes "--me") words)
@@ -95,7 +95,7 @@ command_of (name ∷ value ∷ []) = if is_value value then of_value name value 
 command_of (name ∷ a ∷ b ∷ []) = if bytes_eq name (codes "updates") then of_info a b else None
 command_of _ = None
 
--- the one command that is answered yet
+-- the one command that is answered so far
 abbrev pub is_list : Command → Bool
 is_list command.List = true
 is_list _ = false

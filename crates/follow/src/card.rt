@@ -3,7 +3,7 @@ use kit::{Addr, Id, Text};
 
 /// What is kept of a mail of a plain mbox, which is to the own address alone and a chat mail.
 #[derive(Drop)]
-pub struct Card {
+pub struct PlainCard {
     /// The id of the mail.
     pub id: Id,
     /// Who sent it.
@@ -12,6 +12,6 @@ pub struct Card {
     pub from_name: Text,
     /// When it was sent, in seconds since 1970.
     pub date: u64,
-    /// What it says.
+    /// The text that it has.
     pub text: Text,
 }

@@ -6,7 +6,7 @@ ghost use Rattle.follow.specs.Dates.{fits, has_form, is_plain_date, plain_moment
 
 use mail_date::moment;
 
-// One of D Y h m s stands for a digit, another letter for a letter, and every other byte for itself.
+// One of D Y h m s means a digit, another letter a letter, and every other byte itself.
 const FORM: &[u8; 31] = b"Www, DD Mon YYYY hh:mm:ss +0000";
 
 /// The moment that a plain date names, in seconds since 1970-01-01 00:00:00 UTC. A plain date has the
@@ -42,17 +42,17 @@ fn all_fit(form: &[u8], bytes: &[u8]) -> bool
 {
     form.iter()
         .zip(bytes)
-        .all(|(place, byte)| fits(*place, *byte))
+        .all(|(sign, byte)| fits(*sign, *byte))
 }
 
-fn fits(place: u8, byte: u8) -> bool
-    ensures { result ≡ fits place byte }
+fn fits(sign: u8, byte: u8) -> bool
+    ensures { result ≡ fits sign byte }
 {
-    if b"DYhms".contains(&place) {
+    if b"DYhms".contains(&sign) {
         byte.is_ascii_digit()
-    } else if place.is_ascii_alphabetic() {
+    } else if sign.is_ascii_alphabetic() {
         byte.is_ascii_alphabetic()
     } else {
-        place == byte
+        sign == byte
     }
 }

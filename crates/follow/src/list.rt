@@ -1,19 +1,20 @@
 //! The list of chats.
 ghost use Rattle.std.specs.Prelude.{◌≡◌, ◌≤◌, ℕ, IfOk, IfSome, All, map, count_by};
 ghost use Rattle.std.specs.Option.{option_copied};
-ghost use Rattle.kit.specs.Distinct.{each_once};
+ghost use Rattle.lists.specs.Distinct.{each_once};
 ghost use Rattle.follow.specs.Lists.{is_from, is_named_from, last_where, list_row, contact_name, body_of, list_of};
 
 use crate::mail::Mail;
 use crate::utf8::text_of;
 use kit::{Addr, Memory, Text};
+use lists::each_once;
 use std::alloc::Global;
 use std::cmp::Reverse;
 use std::collections::BTreeMap;
 
 /// A chat in the list.
 #[derive(Drop)]
-pub struct ListRow {
+pub struct PlainRow {
     /// The address with which the chat is.
     pub address: Addr,
     /// What the chat is called.
@@ -22,11 +23,11 @@ pub struct ListRow {
     pub fresh: usize,
     /// The effective date of its last mail that is shown, in seconds since 1970.
     pub last: Option<u64>,
-    /// What that mail says.
+    /// The text of that mail.
     pub body: Text,
 }
 
-/// The place of a chat in the list: the latest first, none last, and then by address.
+/// What orders the list: the latest chat first, those of no date last, and then by address.
 #[derive(Debug, PartialEq, Eq, PartialOrd, Ord, Drop)]
 struct Rank {
     last: Reverse<Option<u64>>,
@@ -37,13 +38,11 @@ struct Rank {
 fn senders(alloc: Global, mails: &[Mail]) -> Result<Vec<Addr>, Memory>
     ensures { IfOk result (λ senders. senders.items ≡ each_once (map (λ mail. mail.card.from) mails.now)) }
 {
-    let mut senders = Vec::new(alloc);
+    let mut addresses = Vec::new(alloc);
     for mail in mails {
-        if !senders.contains(&mail.card.from) {
-            senders.push(mail.card.from.copy()?)?;
-        }
+        addresses.push(mail.card.from.copy()?)?;
     }
-    Ok(senders)
+    each_once(alloc, addresses)
 }
 
 /// How many mails an address sent.
@@ -81,7 +80,7 @@ fn contact_name(alloc: Global, mails: &[Mail], address: &Addr) -> Result<Text, M
     }
 }
 
-/// What a mail says; nothing where there is none.
+/// The text of a mail, empty where there is none.
 fn body_of(alloc: Global, mail: Option<&Mail>) -> Result<Text, Memory>
     ensures { IfOk result (λ body. body ≡ body_of (option_copied mail.entry)) }
 {
@@ -92,7 +91,7 @@ fn body_of(alloc: Global, mail: Option<&Mail>) -> Result<Text, Memory>
 }
 
 /// The chat with an address.
-fn list_row(alloc: Global, mails: &[Mail], address: Addr) -> Result<ListRow, Memory>
+fn list_row(alloc: Global, mails: &[Mail], address: Addr) -> Result<PlainRow, Memory>
     ensures { IfOk result (λ row. row ≡ list_row mails.now address) }
 {
     let name = contact_name(alloc, mails, &address)?;
@@ -101,7 +100,7 @@ fn list_row(alloc: Global, mails: &[Mail], address: Addr) -> Result<ListRow, Mem
     let mail = last_from(mails, &address);
     let last = mail.map(|mail| mail.date);
     let body = body_of(alloc, mail)?;
-    Ok(ListRow {
+    Ok(PlainRow {
         address,
         name,
         fresh,
@@ -111,8 +110,8 @@ fn list_row(alloc: Global, mails: &[Mail], address: Addr) -> Result<ListRow, Mem
 }
 
 /// The list of the chats of mails in mail order: the chat with the latest mail first, and no chat later than all
-/// mails. Takes memory, and is `Err` only where there is none.
-pub fn list_of(alloc: Global, mails: &[Mail]) -> Result<Vec<ListRow>, Memory>
+/// mails. Takes memory; `Err` only when it runs out.
+pub fn list_of(alloc: Global, mails: &[Mail]) -> Result<Vec<PlainRow>, Memory>
     ensures value { IfOk result (λ rows. rows.items ≡ list_of mails.now) }
     ensures dates { (at : ℕ) → All (λ mail. mail.date ≤ at) mails.now
         → IfOk result (λ rows. All (λ row. IfSome row.last (λ time. time ≤ at)) rows.items) }

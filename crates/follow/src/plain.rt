@@ -5,14 +5,14 @@ ghost use Rattle.std.specs.Prelude.{◌≡◌, ◌<◌, ◌≤◌, ◌==◌, IfO
 ghost use Rattle.std.specs.Char.{is_ascii_alphanumeric};
 ghost use Rattle.std.specs.List.{list_all};
 ghost use Rattle.std.specs.Option.{option_copied};
-ghost use Rattle.kit.specs.Distinct.{are_distinct};
+ghost use Rattle.lists.specs.Distinct.{are_distinct};
 ghost use Rattle.kit.specs.Lines.{raw_lines};
-ghost use Rattle.follow.specs.Plain.{is_plain_byte, plain_address, before, between, is_plain_word, is_plain_name, name_and_address, is_trimmed, is_unquoted, is_plain_text, read_date, read_id, read_text, is_to, is_frame, read_card, card_of, cards_of, plain_cards, longest};
+ghost use Rattle.follow.specs.Plain.{is_plain_byte, plain_address, strip_suffix, between, is_plain_word, is_plain_name, name_and_address, is_trimmed, is_unquoted, is_plain_text, read_date, read_id, read_text, is_to, is_frame, read_card, card_of, cards_of, plain_cards, max_len};
 
-use crate::card::Card;
+use crate::card::PlainCard;
 use crate::dates::plain_moment;
 use crate::utf8::text_of;
-use kit::{Addr, Id, Memory, Text, behind, is_printing, lines, split_once};
+use kit::{Addr, Id, Memory, Text, is_printing, split_line, split_once, strip_prefix};
 use std::alloc::Global;
 use std::collections::BTreeSet;
 
@@ -31,8 +31,8 @@ fn are_plain_bytes(bytes: &[u8]) -> bool
     bytes.iter().all(is_plain_byte)
 }
 
-/// The address that the bytes are, if they are one of small letters, digits, `.`, `_`, `-` and the `@` alone, else none.
-/// Takes memory.
+/// The address that the bytes are, if they are one of small letters, digits, `.`, `_`, `-` and the `@` alone, else
+/// none. Takes memory; `Err` only when it runs out.
 fn plain_address(alloc: Global, bytes: &[u8]) -> Result<Option<Addr>, Memory>
     ensures { IfOk result (λ read. read ≡ plain_address bytes.now) }
 {
@@ -42,18 +42,18 @@ fn plain_address(alloc: Global, bytes: &[u8]) -> Result<Option<Addr>, Memory>
     Addr::read(alloc, bytes)
 }
 
-/// The bytes before a back.
-fn before<'a>(back: &[u8], bytes: &'a [u8]) -> Option<&'a [u8]>
-    ensures { option_copied result ≡ before back.now bytes.now }
+/// The bytes before a suffix.
+fn strip_suffix<'a>(bytes: &'a [u8], suffix: &[u8]) -> Option<&'a [u8]>
+    ensures { option_copied result ≡ strip_suffix bytes.now suffix.now }
 {
-    bytes.strip_suffix(back)
+    bytes.strip_suffix(suffix)
 }
 
-/// What stands between a front and a back.
-fn between<'a>(front: &[u8], back: &[u8], bytes: &'a [u8]) -> Option<&'a [u8]>
-    ensures { option_copied result ≡ between front.now back.now bytes.now }
+/// The bytes between a prefix and a suffix.
+fn between<'a>(bytes: &'a [u8], prefix: &[u8], suffix: &[u8]) -> Option<&'a [u8]>
+    ensures { option_copied result ≡ between bytes.now prefix.now suffix.now }
 {
-    before(back, behind(front, bytes)?)
+    strip_suffix(strip_prefix(bytes, prefix)?, suffix)
 }
 
 fn are_alphanumeric(word: &[u8]) -> bool
@@ -87,8 +87,8 @@ struct Sender {
 fn name_and_address(body: &[u8]) -> Option<(&[u8], &[u8])>
     ensures { option_map (λ p. (p.0.now, p.1.now)) result ≡ name_and_address body.now }
 {
-    let (front, back) = split_once(body, b'<')?;
-    Some((before(b" ", front)?, before(b">", back)?))
+    let (name, address) = split_once(body, b'<')?;
+    Some((strip_suffix(name, b" ")?, strip_suffix(address, b">")?))
 }
 
 impl Sender {
@@ -122,11 +122,11 @@ impl Sender {
         Ok(Some(Sender { address, name }))
     }
 
-    /// The sender that a From line tells, if it is another than oneself.
+    /// The sender of a From line, if it is another than oneself.
     fn read(alloc: Global, me: &Addr, line: &[u8]) -> Result<Option<Sender>, Memory>
         ensures { IfOk result (λ read. read ≡ read_sender me.now line.now) }
     {
-        let Some(body) = between(b"From: ", b"\n", line) else {
+        let Some(body) = between(line, b"From: ", b"\n") else {
             return Ok(None);
         };
         let Some(sender) = Sender::of(alloc, body)? else {
@@ -139,11 +139,11 @@ impl Sender {
     }
 }
 
-/// The moment that a Date line tells.
+/// The moment of a Date line.
 fn read_date(line: &[u8]) -> Option<u64>
     ensures { result ≡ read_date line.now }
 {
-    plain_moment(between(b"Date: ", b"\n", line)?)
+    plain_moment(between(line, b"Date: ", b"\n")?)
 }
 
 /// The id that has the form of a plain address.
@@ -156,11 +156,11 @@ fn plain_id(alloc: Global, body: &[u8]) -> Result<Option<Id>, Memory>
     Id::read(alloc, address.bytes())
 }
 
-/// The id that a Message-ID line tells.
+/// The id of a Message-ID line.
 fn read_id(alloc: Global, line: &[u8]) -> Result<Option<Id>, Memory>
     ensures { IfOk result (λ read. read ≡ read_id line.now) }
 {
-    match between(b"Message-ID: <", b">\n", line) {
+    match between(line, b"Message-ID: <", b">\n") {
         Some(body) => plain_id(alloc, body),
         None => Ok(None),
     }
@@ -190,11 +190,11 @@ fn is_plain_text(text: &[u8]) -> bool
         && is_unquoted(text)
 }
 
-/// The text that a text line tells.
+/// The text of a text line.
 fn read_text(alloc: Global, line: &[u8]) -> Result<Option<Text>, Memory>
     ensures { IfOk result (λ read. read ≡ read_text line.now) }
 {
-    let Some(text) = before(b"\n", line) else {
+    let Some(text) = strip_suffix(line, b"\n") else {
         return Ok(None);
     };
     if !is_plain_text(text) {
@@ -203,17 +203,17 @@ fn read_text(alloc: Global, line: &[u8]) -> Result<Option<Text>, Memory>
     Ok(Some(text_of(alloc, text)?))
 }
 
-/// Whether a To line tells the own address.
+/// Whether a To line has the own address.
 fn is_to(me: &Addr, line: &[u8]) -> bool
     ensures { result ≡ is_to me.now line.now }
 {
-    match between(b"To: ", b"\n", line) {
+    match between(line, b"To: ", b"\n") {
         Some(to) => to == me.bytes(),
         None => false,
     }
 }
 
-/// The card that four lines of a mail tell.
+/// The card of the four lines of a mail that differ from mail to mail.
 fn read_card(
     alloc: Global,
     me: &Addr,
@@ -221,7 +221,7 @@ fn read_card(
     date: &[u8],
     id: &[u8],
     text: &[u8],
-) -> Result<Option<Card>, Memory>
+) -> Result<Option<PlainCard>, Memory>
     ensures { IfOk result (λ read. read ≡ read_card me.now from.now date.now id.now text.now) }
 {
     let Some(sender) = Sender::read(alloc, me, from)? else {
@@ -237,7 +237,7 @@ fn read_card(
         return Ok(None);
     };
     let Sender { address, name } = sender;
-    Ok(Some(Card {
+    Ok(Some(PlainCard {
         id,
         from: address,
         from_name: name,
@@ -257,7 +257,7 @@ fn is_frame(separator: &[u8], version: &[u8], gap: &[u8], end: &[u8]) -> bool
 }
 
 /// The card of the lines of a mail, if these are the nine of a plain one.
-fn card_of(alloc: Global, me: &Addr, lines: &[&[u8]]) -> Result<Option<Card>, Memory>
+fn card_of(alloc: Global, me: &Addr, lines: &[&[u8]]) -> Result<Option<PlainCard>, Memory>
     ensures { IfOk result (λ read. read ≡ card_of me.now (map (λ line. line.now) lines.now)) }
 {
     let [separator, from, to, date, id, version, gap, text, end] = lines else {
@@ -270,20 +270,20 @@ fn card_of(alloc: Global, me: &Addr, lines: &[&[u8]]) -> Result<Option<Card>, Me
 }
 
 /// The lines of bytes, each with the bytes that end it.
-#[tactic(auto, using(kit::proofs::LineLemmas::lines_within))]
 fn raw_lines<'a>(alloc: Global, bytes: &'a [u8]) -> Result<Vec<&'a [u8]>, Memory>
     ensures { IfOk result (λ raw. map (λ line. line.now) raw.items ≡ raw_lines bytes.now) }
 {
-    let places = lines(alloc, bytes)?;
-    let mut raw = Vec::new(alloc);
-    for line in &places {
-        raw.push(&bytes[line.start..line.next])?;
+    let mut lines = Vec::new(alloc);
+    let mut left = bytes;
+    while let Some((raw, rest)) = split_line(left) {
+        lines.push(raw)?;
+        left = rest;
     }
-    Ok(raw)
+    Ok(lines)
 }
 
 /// The cards of mails of nine lines each.
-fn cards_of(alloc: Global, me: &Addr, lines: &[&[u8]]) -> Result<Option<Vec<Card>>, Memory>
+fn cards_of(alloc: Global, me: &Addr, lines: &[&[u8]]) -> Result<Option<Vec<PlainCard>>, Memory>
     ensures { IfOk result (λ read. option_map (λ cards. cards.items) read ≡ cards_of me.now (map (λ line. line.now) lines.now)) }
 {
     let mut cards = Vec::new(alloc);
@@ -297,7 +297,7 @@ fn cards_of(alloc: Global, me: &Addr, lines: &[&[u8]]) -> Result<Option<Vec<Card
 }
 
 /// Whether no two cards have one id.
-fn have_distinct_ids(alloc: Global, cards: &[Card]) -> Result<bool, Memory>
+fn have_distinct_ids(alloc: Global, cards: &[PlainCard]) -> Result<bool, Memory>
     ensures { IfOk result (λ distinct. distinct ≡ are_distinct (map (λ card. card.id) cards.now)) }
 {
     let mut ids = BTreeSet::new(alloc);
@@ -309,9 +309,9 @@ fn have_distinct_ids(alloc: Global, cards: &[Card]) -> Result<bool, Memory>
     Ok(true)
 }
 
-/// The cards of a plain mbox, in its order; none where it is not plain. Takes memory.
-pub fn plain_cards(alloc: Global, me: &Addr, mbox: &[u8]) -> Result<Option<Vec<Card>>, Memory>
-    requires { length mbox.now ≤ longest }
+/// The cards of a plain mbox, in its order; none where it is not plain. Takes memory; `Err` only when it runs out.
+pub fn plain_cards(alloc: Global, me: &Addr, mbox: &[u8]) -> Result<Option<Vec<PlainCard>>, Memory>
+    requires { length mbox.now ≤ max_len }
     ensures { IfOk result (λ read. option_map (λ cards. cards.items) read ≡ plain_cards me.now mbox.now) }
 {
     let lines = raw_lines(alloc, mbox)?;

@@ -3,27 +3,27 @@ ghost use Rattle.std.specs.Prelude.{◌≡◌, ◌≤◌, ◌++◌, All, IfOk, O
 ghost use Rattle.kit.specs.Moments.{last_moment};
 ghost use Rattle.follow.specs.Texts.{short, last_text, list_line, list_text};
 
-use crate::list::ListRow;
+use crate::list::PlainRow;
 use crate::times::push_time;
 use crate::utf8::str_of;
 use kit::Memory;
 use std::alloc::Global;
 
-/// How many characters of a mail a line shows.
-const SHOWN: usize = 60;
+/// At most so many characters of a mail are printed.
+const MAX_CHARS: usize = 60;
 
 /// Appends the first characters of a mail.
 fn push_short(text: &mut String, body: &str) -> Result<(), Memory>
     ensures { OnOk result (string_bytes text.new ≡ string_bytes text.old ++ short body.now) }
 {
-    for character in body.chars().take(SHOWN) {
+    for character in body.chars().take(MAX_CHARS) {
         text.push(character)?;
     }
     Ok(())
 }
 
-/// Appends when the last mail of a chat was, and what it says.
-fn push_last(text: &mut String, row: &ListRow) -> Result<(), Memory>
+/// Appends the time of the last mail of a chat, and the beginning of its text.
+fn push_last(text: &mut String, row: &PlainRow) -> Result<(), Memory>
     requires { IfSome row.now.last (λ time. time ≤ last_moment) }
     ensures { OnOk result (string_bytes text.new ≡ string_bytes text.old ++ last_text row.now) }
 {
@@ -38,7 +38,7 @@ fn push_last(text: &mut String, row: &ListRow) -> Result<(), Memory>
 }
 
 /// Appends the line of a chat: KEY, NAME, how many are fresh, TIME and BODY of the last mail.
-fn push_line(text: &mut String, row: &ListRow) -> Result<(), Memory>
+fn push_line(text: &mut String, row: &PlainRow) -> Result<(), Memory>
     requires { IfSome row.now.last (λ time. time ≤ last_moment) }
     ensures { OnOk result (string_bytes text.new ≡ string_bytes text.old ++ list_line row.now) }
 {
@@ -52,9 +52,9 @@ fn push_line(text: &mut String, row: &ListRow) -> Result<(), Memory>
     Ok(())
 }
 
-/// The list as text, a line for each chat, where no chat is later than the year 9999. Takes memory, and is `Err` only
-/// where there is none.
-pub fn list_text(alloc: Global, rows: &[ListRow]) -> Result<String, Memory>
+/// The list as text, a line for each chat, where no chat is later than the year 9999. Takes memory; `Err` only when
+/// it runs out.
+pub fn list_text(alloc: Global, rows: &[PlainRow]) -> Result<String, Memory>
     requires { All (λ row. IfSome row.last (λ time. time ≤ last_moment)) rows.now }
     ensures { IfOk result (λ text. string_bytes text ≡ list_text rows.now) }
 {

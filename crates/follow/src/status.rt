@@ -3,6 +3,9 @@ ghost use Rattle.std.specs.Prelude.{◌≡◌};
 ghost use Rattle.follow.specs.declared.status.Refusal.TheVariants as refusal;
 
 use kit::Memory;
+use std::fmt;
+use std::fmt::{Display, Formatter};
+use thiserror::Error;
 
 /// How a run ends.
 #[derive(Clone, Copy, Debug, PartialEq, Eq)]
@@ -13,7 +16,7 @@ pub enum Status {
     Usage,
     /// A device that is read failed.
     Read,
-    /// The device that is written failed, and took a front of the answer.
+    /// The device that is written failed, and took a prefix of the answer.
     Write,
     /// Memory ran out.
     Memory,
@@ -40,7 +43,7 @@ impl Status {
 }
 
 /// A device that is read.
-#[derive(Clone, Copy, Debug, PartialEq, Eq)]
+#[derive(Clone, Copy, Debug, PartialEq, Eq, Hash)]
 pub enum Input {
     /// The mailbox.
     Mbox,
@@ -48,16 +51,29 @@ pub enum Input {
     Steps,
 }
 
+impl Display for Input {
+    fn fmt<W: fmt::Write>(&self, f: &mut Formatter<W>) -> fmt::Result {
+        f.write_str(match self {
+            Input::Mbox => "mbox",
+            Input::Steps => "steps",
+        })
+    }
+}
+
 /// Why a run ends without an answer.
-#[derive(Clone, Copy, Debug, PartialEq, Eq)]
+#[derive(Clone, Copy, Debug, PartialEq, Eq, Hash, Error)]
 pub enum Refusal {
     /// The words are not those of a command.
+    #[error("usage: --me ADDR [--at N] list | chat KEY | contacts | updates ID [--info] | trial N")]
     Usage,
     /// The input failed.
+    #[error("read fault: {0}")]
     Read(Input),
     /// Memory ran out.
+    #[error("out of memory")]
     Memory,
     /// The program does not read this input yet.
+    #[error("not built yet")]
     Unbuilt,
 }
 

@@ -6,12 +6,11 @@ ghost use Rattle.kit.specs.Moments.{last_moment};
 ghost use Rattle.mailbox_model.specs.Times.{civil_date, date_text, clock_text, four_digits, time_text, two_digits};
 
 use jiff_core::civil::Date;
-use kit::Memory;
-use mail_date::SECONDS_PER_DAY;
+use kit::{Memory, SECONDS_PER_DAY};
 
 /// Appends a moment, in seconds since 1970-01-01 00:00:00 UTC and of a year up to 9999, in the form
 /// `YYYY-MM-DD HH:MM` in UTC, without its seconds. Takes memory where the text has no room for 16 more
-/// bytes, and is `Err` only where there is none: some of the bytes may then have been appended.
+/// bytes; `Err` only when it runs out: some of the bytes may then have been appended.
 pub fn push_time(text: &mut String, moment: u64) -> Result<(), Memory>
     requires { moment ≤ last_moment }
     ensures ok { OnOk result (string_bytes text.new ≡ string_bytes text.old ++ time_text moment) }

@@ -14,7 +14,7 @@ pub fn str_of(bytes: &[u8]) -> &str
     str::from_utf8(bytes).unwrap()
 }
 
-/// The bytes as a text. Takes memory.
+/// The bytes as a text. Takes memory; `Err` only when it runs out.
 pub fn text_of(alloc: Global, bytes: &[u8]) -> Result<Text, Memory>
     requires { IsUtf8 bytes.now }
     ensures { IfOk result (λ text. text ≡ bytes.now) }

@@ -5,23 +5,27 @@ ghost use Rattle.outside.specs.Causes.{Rose};
 
 use outside::Source;
 use std::alloc::{AllocError, Global};
+use thiserror::Error;
 
-/// How many bytes are asked for at once.
-const PIECE: usize = 4096;
+/// At most so many bytes are taken at once.
+const MAX_CHUNK: usize = 4096;
 
 /// Why a source is not read whole.
-#[derive(Clone, Copy, Debug, PartialEq, Eq)]
+#[derive(Clone, Copy, Debug, PartialEq, Eq, Hash, Error)]
 pub enum WholeFault {
     /// The source failed.
+    #[error("the source could not be read")]
     Read,
-    /// The source has more bytes than were asked for.
+    /// The source has more bytes than were allowed.
+    #[error("the source is too long")]
     TooLong,
     /// Memory ran out.
+    #[error("out of memory")]
     Memory,
 }
 
-/// Takes at most `want` bytes behind those that are held, and says how many.
-fn take_piece<M: Source>(
+/// Appends at most `want` more bytes of the source, and returns how many.
+fn take_chunk<M: Source>(
     source: &mut M,
     want: usize,
     bytes: &mut Vec<u8>,
@@ -31,14 +35,14 @@ fn take_piece<M: Source>(
     ensures cause { IsErrOf result WholeFault.Read → Rose (M.faults source.old) (M.faults source.new) }
     ensures not_long { IsErrOf result WholeFault.TooLong → ⊥ }
     ensures count { IfOk result (λ n. (n ≤ want) × (vec_len bytes.new ≡ vec_len bytes.old + n)) }
-    ensures bytes { IfOk result (λ n. (piece : List ℕ) × (length piece ≡ n) × (bytes.new.items ≡ bytes.old.items ++ piece)
-        × Consumes (M.left source.old) (M.left source.new) piece) }
+    ensures bytes { IfOk result (λ n. (chunk : List ℕ) × (length chunk ≡ n) × (bytes.new.items ≡ bytes.old.items ++ chunk)
+        × Consumes (M.left source.old) (M.left source.new) chunk) }
     ensures end { IfOk result (λ n. n ≡ 0 → 0 < want → IsAtEnd (M.left source.new)) }
-    ensures lost { OnErr result ((piece : List ℕ) × (length piece ≤ want)
-        × Consumes (M.left source.old) (M.left source.new) piece) }
+    ensures lost { OnErr result ((chunk : List ℕ) × (length chunk ≤ want)
+        × Consumes (M.left source.old) (M.left source.new) chunk) }
 {
-    let mut piece = [0u8; PIECE];
-    let part = &mut piece[..want];
+    let mut chunk = [0u8; MAX_CHUNK];
+    let part = &mut chunk[..want];
     match source.take(part) {
         Ok(n) => match bytes.extend_from_slice(&part[..n]) {
             Ok(()) => Ok(n),
@@ -48,8 +52,8 @@ fn take_piece<M: Source>(
     }
 }
 
-/// All bytes of a source that has at most `limit`. It takes no more than `limit + 1`, and answers `TooLong` where it
-/// got these, `Read` where the source failed.
+/// All bytes of a source that has at most `limit`. It takes no more than `limit + 1`: `TooLong` where it got as many,
+/// `Read` where the source failed.
 pub fn read_whole<M: Source>(
     alloc: Global,
     limit: usize,
@@ -61,12 +65,12 @@ pub fn read_whole<M: Source>(
     ensures whole { IfOk result (λ v. IfSome (M.left source.old) (λ bytes. v.items ≡ bytes)) }
     ensures short { IfOk result (λ v. vec_len v ≤ limit) }
     ensures long { IsErrOf result WholeFault.TooLong → IfSome (M.left source.old) (λ bytes. limit < length bytes) }
-    ensures taken { (piece : List ℕ) × (length piece ≤ limit + 1) × Consumes (M.left source.old) (M.left source.new) piece }
+    ensures taken { (chunk : List ℕ) × (length chunk ≤ limit + 1) × Consumes (M.left source.old) (M.left source.new) chunk }
 {
     let mut bytes = Vec::new(alloc);
     while bytes.len() <= limit {
-        let want = PIECE.min(limit + 1 - bytes.len());
-        if take_piece(source, want, &mut bytes)? == 0 {
+        let want = MAX_CHUNK.min(limit + 1 - bytes.len());
+        if take_chunk(source, want, &mut bytes)? == 0 {
             return Ok(bytes);
         }
     }

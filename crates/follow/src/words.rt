@@ -4,11 +4,10 @@ ghost use Rattle.kit.specs.Moments.{last_moment};
 ghost use Rattle.std.specs.Char.{is_ascii_digit};
 ghost use Rattle.std.specs.List.{list_all};
 ghost use Rattle.std.specs.Option.{option_copied};
-ghost use Rattle.follow.specs.Words.{is_value, joined, moment_of, moment_if_given, trial_of, own_address};
+ghost use Rattle.follow.specs.Words.{is_value, joined, moment_of, moment_if_given, trial_of, sole, own_address};
 
-use kit::{Addr, LAST_MOMENT, Memory, Text, behind};
-use mail_address::people;
-use mail_date::number;
+use kit::{Addr, LAST_MOMENT, Memory, Text, number, strip_prefix};
+use mail_address::{Person, people};
 use std::alloc::Global;
 
 /// What a run is to print.
@@ -31,13 +30,13 @@ pub enum Command {
 pub struct Request {
     /// The own address.
     pub me: Addr,
-    /// The moment of the run in seconds since 1970, where the words tell one.
+    /// The moment of the run in seconds since 1970, where the words give one.
     pub at: Option<u64>,
     /// What is to be printed.
     pub command: Command,
 }
 
-/// What the options say, as it is written, and the words behind them.
+/// What the options say, as it is written, and the words after them.
 #[derive(Clone, Copy)]
 struct Line<'a> {
     me: &'a [u8],
@@ -62,10 +61,10 @@ fn is_value(word: &[u8]) -> bool
 fn joined<'a>(name: &[u8], word: &'a [u8]) -> Option<&'a [u8]>
     ensures { option_copied result ≡ joined name.now word.now }
 {
-    behind(b"=", behind(name, word)?)
+    strip_prefix(strip_prefix(word, name)?, b"=")
 }
 
-/// The moment that a word of 1 to 12 digits tells, if it is one from 1970 to 9999.
+/// The moment that 1 to 12 digits write, if it is one from 1970 to 9999.
 fn moment_of(word: &[u8]) -> Option<u64>
     ensures value { result ≡ moment_of word.now }
     ensures bound { IfSome result (λ moment. moment ≤ last_moment) }
@@ -79,7 +78,7 @@ fn are_digits(word: &[u8]) -> bool
     word.iter().all(|b| b.is_ascii_digit())
 }
 
-/// The number of a trial that a word of 1 to 20 digits tells, if it is below 2^64.
+/// The number of a trial that 1 to 20 digits write, if it is below 2^64.
 fn trial_of(word: &Text) -> Option<u64>
     ensures { result ≡ trial_of word.now }
 {
@@ -90,7 +89,7 @@ fn trial_of(word: &Text) -> Option<u64>
     word.parse().ok()
 }
 
-/// The moment that the word of an option tells: none where there is no option, and an outer none where it tells no moment.
+/// The moment of an option's word: none where there is no option, and an outer none where the word is no moment.
 fn moment_if_given(word: Option<&[u8]>) -> Option<Option<u64>>
     ensures value { result ≡ moment_if_given (option_copied word.entry) }
     ensures bound { IfSome result (λ at. IfSome at (λ moment. moment ≤ last_moment)) }
@@ -101,15 +100,21 @@ fn moment_if_given(word: Option<&[u8]>) -> Option<Option<u64>>
     }
 }
 
-/// The address of the one person that a word tells, if it tells one and no other.
+/// The address of the person, if there is one and no other.
+fn sole(mut persons: Vec<Person>) -> Option<Addr>
+    ensures { result ≡ sole persons.items }
+{
+    match (persons.pop(), persons.is_empty()) {
+        (Some(person), true) => Some(person.addr),
+        _ => None,
+    }
+}
+
+/// The address of the person that a word names, if it names one and no other.
 fn own_address(alloc: Global, word: &[u8]) -> Result<Option<Addr>, Memory>
     ensures { IfOk result (λ read. read ≡ own_address word.now) }
 {
-    let mut persons = people(alloc, word)?;
-    match (persons.pop(), persons.is_empty()) {
-        (Some(person), true) => Ok(Some(person.addr)),
-        _ => Ok(None),
-    }
+    Ok(sole(people(alloc, word)?))
 }
 
 impl<'a> Words<'a> {
@@ -117,7 +122,7 @@ impl<'a> Words<'a> {
     ghost use Rattle.follow.specs.Words.{value_at, option_at, line_of};
     ghost use Rattle.follow.specs.Views.{written};
 
-    /// The value that stands first, and the words behind it.
+    /// The value that is first, and the words after it.
     fn value(self) -> Option<(&'a [u8], Words<'a>)>
         ensures { option_map (λ p. (p.0.now, p.1.words.now)) result ≡ value_at self.entry.words.now }
     {
@@ -127,7 +132,7 @@ impl<'a> Words<'a> {
         }
     }
 
-    /// The value of an option of this name that stands first, as `--name=T` or as `--name V`, and the words behind it.
+    /// The value of an option of this name that is first, as `--name=T` or as `--name V`, and the words after it.
     fn option(self, name: &[u8]) -> Option<(&'a [u8], Words<'a>)>
         ensures { option_map (λ p. (p.0.now, p.1.words.now)) result ≡ option_at name.now self.entry.words.now }
     {
@@ -141,7 +146,7 @@ impl<'a> Words<'a> {
         Some((joined(name, word.bytes())?, rest))
     }
 
-    /// The options that stand first: `--me`, and `--at` on either side of it or not at all.
+    /// The options, which are first: `--me`, and `--at` on either side of it or not at all.
     fn line(self) -> Option<Line<'a>>
         ensures { option_map written result ≡ line_of self.entry.words.now }
     {
@@ -195,7 +200,7 @@ impl Command {
         })
     }
 
-    /// The command `updates` with two words behind it, of which one is `--info`.
+    /// The command `updates` with two words after it, of which one is `--info`.
     fn of_info(a: &Text, b: &Text) -> Result<Option<Command>, Memory>
         ensures { IfOk result (λ read. read ≡ of_info a.now b.now) }
     {
@@ -215,7 +220,7 @@ impl Command {
         }))
     }
 
-    /// The command that the words are. Takes memory.
+    /// The command that the words are. Takes memory; `Err` only when it runs out.
     fn read(words: &[Text]) -> Result<Option<Command>, Memory>
         ensures { IfOk result (λ read. read ≡ command_of words.now) }
     {
@@ -227,7 +232,7 @@ impl Command {
         }
     }
 
-    /// Whether this is the one command that is answered yet.
+    /// Whether this is the one command that is answered so far.
     pub fn is_list(&self) -> bool
         ensures { result ≡ is_list self.now }
     {
@@ -240,7 +245,8 @@ impl Request {
     ghost use Rattle.kit.specs.Moments.{last_moment};
     ghost use Rattle.follow.specs.Words.{request};
 
-    /// What the words of a command line ask for; none where they are not those of a command. Takes memory.
+    /// What the words of a command line ask for; none where they are not those of a command. Takes memory;
+    /// `Err` only when it runs out.
     pub fn read(alloc: Global, words: &[Text]) -> Result<Option<Request>, Memory>
         ensures value { IfOk result (λ read. read ≡ request words.now) }
         ensures bound { IfOk result (λ read. IfSome read (λ r. IfSome r.at (λ at. at ≤ last_moment))) }

@@ -1,4 +1,6 @@
-pub mod Distinct
+pub mod ContentLemmas
+mod DigitLemmas
+pub mod LetterLemmas
 pub mod LineLemmas
 mod OptionCases
 pub mod RawLines

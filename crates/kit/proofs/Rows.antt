@@ -5,8 +5,8 @@ use Rattle.std.specs.Str.{is_utf8, chars}
 use Rattle.std.specs.Str.Lossy.{utf8_lossy, utf8_valid_len, utf8_error_len}
 use Rattle.kit.specs.declared.charset.Charset.TheVariants.{Utf8, Latin1, Ascii}
 use Rattle.kit.specs.Charsets.{charset_of, to_text}
-use Rattle.kit.specs.Cuts.{behind}
-use Rattle.kit.specs.Distinct.{are_distinct, each_once}
+use Rattle.kit.specs.Cuts.{strip_prefix}
+use Rattle.kit.specs.Numbers.{number}
 use Rattle.kit.specs.Letters.{lowered, same_name}
 use Rattle.kit.specs.Reading.{read_as}
 use Rattle.kit.specs.Lines.{raw_lines, content, lines}
@@ -30,14 +30,23 @@ lines_of_nothing = refl
 content_keeps_one_cr : content (codes "a\r\r\n") ≡ codes "a\r"
 content_keeps_one_cr = refl
 
-behind_front : behind (codes "ab") (codes "abc") ≡ Some (codes "c")
-behind_front = refl
+prefix_stripped : strip_prefix (codes "abc") (codes "ab") ≡ Some (codes "c")
+prefix_stripped = refl
 
-behind_other : behind (codes "ab") (codes "ac") ≡ None
-behind_other = refl
+prefix_other : strip_prefix (codes "ac") (codes "ab") ≡ None
+prefix_other = refl
 
-behind_longer : behind (codes "ab") (codes "a") ≡ None
-behind_longer = refl
+prefix_longer : strip_prefix (codes "a") (codes "ab") ≡ None
+prefix_longer = refl
+
+number_with_zeros : number 1 4 (codes "0070") ≡ Some 70
+number_with_zeros = refl
+
+number_too_short : number 4 4 (codes "070") ≡ None
+number_too_short = refl
+
+number_with_sign : number 1 4 (codes "+70") ≡ None
+number_with_sign = refl
 
 blank_space_and_tab : is_blank (codes " \t") ≡ true
 blank_space_and_tab = refl
@@ -47,12 +56,6 @@ blank_nothing = refl
 
 blank_with_lf : is_blank (codes " \n") ≡ false
 blank_with_lf = refl
-
-distinct_not : are_distinct (codes "b" ∷ codes "a" ∷ codes "b" ∷ []) ≡ false
-distinct_not = refl
-
-once_the_first : each_once (codes "b" ∷ codes "a" ∷ codes "b" ∷ codes "c" ∷ []) ≡ codes "b" ∷ codes "a" ∷ codes "c" ∷ []
-once_the_first = refl
 
 id_plain : read_as is_id (codes "a@b") ≡ Some (codes "a@b")
 id_plain = refl
@@ -102,8 +105,8 @@ addr_colon_in_literal = refl
 addr_colon_in_open_literal : is_addr (codes "a@[x:y") ≡ true
 addr_colon_in_open_literal = refl
 
-addr_colon_behind_literal : is_addr (codes "a@[x]:y") ≡ false
-addr_colon_behind_literal = refl
+addr_colon_after_literal : is_addr (codes "a@[x]:y") ≡ false
+addr_colon_after_literal = refl
 
 addr_capital : is_addr (codes "Bob@x.org") ≡ false
 addr_capital = refl

@@ -3,7 +3,7 @@ use Rattle.std.specs.Prelude.{ℕ, Bool, true, false, ◌&&◌, ◌||◌, not, �
 use Rattle.std.specs.List.{list_all, list_any, starts_with, ends_with}
 use Rattle.std.specs.Char.{is_ascii_graphic, is_ascii_uppercase}
 
--- from 33 to 126, no capital letter, and none of the marks that stand between addresses
+-- from 33 to 126, no capital letter, and none of the marks that separate addresses
 abbrev pub is_addr_byte : ℕ → Bool
 is_addr_byte b = is_ascii_graphic b && not (is_ascii_uppercase b) && not (list_any (λ c. c == b) (codes "<>(),;\""))
 
@@ -13,7 +13,7 @@ has_inner_at bytes =
     count_by (λ b. b == 64) bytes == 1
     && not (starts_with nat_eq bytes (codes "@")) && not (ends_with nat_eq bytes (codes "@"))
 
--- Whether each `:` (58) stands inside brackets. The flag says whether a `[` (91) is open, which the next `]` (93) closes;
+-- Whether each `:` (58) is inside brackets. The flag says whether a `[` (91) is open, which the next `]` (93) closes;
 -- one that is never closed runs to the end.
 abbrev pub has_inner_colons : Bool → List ℕ → Bool
 has_inner_colons inside [] = true

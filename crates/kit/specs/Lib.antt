@@ -1,13 +1,14 @@
-pub mod Options
-pub mod Letters
-pub mod Reading
-pub mod Lines
-pub mod Ids
+-- What public clauses cite.
 pub mod Addresses
 pub mod Charsets
-pub mod White
-pub mod Printing
-pub mod Cuts
 pub mod Comments
-pub mod Distinct
+pub mod Cuts
+pub mod Ids
+pub mod Letters
+pub mod Lines
 pub mod Moments
+pub mod Numbers
+pub mod Options
+pub mod Printing
+pub mod Reading
+pub mod White

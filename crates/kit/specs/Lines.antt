@@ -1,6 +1,6 @@
 -- Lines (RFC 5322, section 2.1). A mailbox ends them by LF alone, too (RFC 4155, appendix A).
 -- A raw line has the bytes that end it, so the raw lines put together are the bytes again.
-use Rattle.std.specs.Prelude.{ℕ, ◌+◌, ◌-◌, ◌==◌, nat_eq, if◌then◌else◌, List, [], ◌∷◌, length, take, codes}
+use Rattle.std.specs.Prelude.{ℕ, ◌+◌, ◌-◌, ◌≤◌, ◌==◌, nat_eq, if◌then◌else◌, List, [], ◌∷◌, length, take, codes}
 use Rattle.std.specs.List.{ends_with}
 use Rattle.kit.specs.declared.line.Line.{Line}
 
@@ -9,7 +9,7 @@ abbrev pub put_before : ℕ → List (List ℕ) → List (List ℕ)
 put_before b [] = (b ∷ []) ∷ []
 put_before b (l ∷ ls) = if b == 10 then (b ∷ []) ∷ l ∷ ls else (b ∷ l) ∷ ls
 
--- the bytes, cut behind each LF
+-- the bytes, cut after each LF
 abbrev pub raw_lines : List ℕ → List (List ℕ)
 raw_lines [] = []
 raw_lines (b ∷ bs) = put_before b (raw_lines bs)
@@ -22,11 +22,11 @@ ending_len raw = if ends_with nat_eq raw (codes "\r\n") then 2 else if ends_with
 abbrev pub content : List ℕ → List ℕ
 content raw = take (length raw - ending_len raw) raw
 
--- where the content of a raw line that begins at a place ends, and where the next line begins
+-- where the content of a raw line that begins at an offset ends, and where the next line begins
 abbrev pub line_at : ℕ → List ℕ → Line
 line_at at raw = record { start = at; end = at + length (content raw); next = at + length raw }
 
--- the places of raw lines, of which the first begins at a place
+-- where raw lines are, of which the first begins at an offset
 abbrev pub placed : ℕ → List (List ℕ) → List Line
 placed at [] = []
 placed at (l ∷ ls) = line_at at l ∷ placed (at + length l) ls
@@ -34,3 +34,9 @@ placed at (l ∷ ls) = line_at at l ∷ placed (at + length l) ls
 -- the lines of bytes
 abbrev pub lines : List ℕ → List Line
 lines bytes = placed 0 (raw_lines bytes)
+
+-- where a line is, in bytes of which there are so many
+pub record IsLineWithin (len : ℕ) (line : Line) : Type 0 where
+  pub content : line.start ≤ line.end
+  pub ending : line.end ≤ line.next
+  pub bytes : line.next ≤ len

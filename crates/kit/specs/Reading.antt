@@ -1,4 +1,4 @@
--- What a reader answers that is itself the test.
+-- What a reader returns that is itself the test.
 use Rattle.std.specs.Prelude.{ℕ, Bool, List, Option, Some, None, if◌then◌else◌}
 
 -- the bytes themselves where they pass the test, else nothing

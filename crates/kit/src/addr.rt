@@ -12,9 +12,9 @@ use std::alloc::Global;
 use std::marker::Model;
 
 /// No address is shorter: a byte on either side of the `@`.
-const SHORTEST: usize = 3;
+const MIN_LEN: usize = 3;
 /// No address is longer than a path without its angle brackets (RFC 5321, section 4.5.3.1.3).
-const LONGEST: usize = 254;
+const MAX_LEN: usize = 254;
 
 /// A mail address (RFC 5322, section 3.4.1) in small letters: 3 to 254 bytes from 33 to 126, none of
 /// them a capital letter or one of `<>(),;"`, with exactly one `@`, which is neither first nor last,
@@ -51,7 +51,7 @@ fn has_inner_at(bytes: &[u8]) -> bool
         && !bytes.ends_with(b"@")
 }
 
-/// Whether each `:` stands inside brackets, where a `[` that is never closed runs to the end.
+/// Whether each `:` is inside brackets, where a `[` that is never closed runs to the end.
 fn has_inner_colons(bytes: &[u8]) -> bool
     ensures { result ≡ has_inner_colons false bytes.now }
 {
@@ -68,8 +68,8 @@ fn has_inner_colons(bytes: &[u8]) -> bool
 fn is_addr(bytes: &[u8]) -> bool
     ensures { result ≡ is_addr bytes.now }
 {
-    SHORTEST <= bytes.len()
-        && bytes.len() <= LONGEST
+    MIN_LEN <= bytes.len()
+        && bytes.len() <= MAX_LEN
         && are_addr_bytes(bytes)
         && has_inner_at(bytes)
         && has_inner_colons(bytes)
@@ -77,7 +77,7 @@ fn is_addr(bytes: &[u8]) -> bool
 
 impl Addr {
     /// The bytes, with ASCII letters lowered, as an address: `None` exactly where they are none (RFC
-    /// 5322, section 3.4.1). Takes memory, and is `Err` only where there is none.
+    /// 5322, section 3.4.1). Takes memory; `Err` only when it runs out.
     pub fn read(alloc: Global, bytes: &[u8]) -> Result<Option<Self>, Memory>
         ensures { IfOk result (λ read. read ≡ read_as is_addr (lowered bytes.now)) }
     {
@@ -99,7 +99,7 @@ impl Addr {
         self.bytes.bytes()
     }
 
-    /// A copy of the address. Takes memory, and is `Err` only where there is none.
+    /// A copy of the address. Takes memory; `Err` only when it runs out.
     pub fn copy(&self) -> Result<Self, Memory>
         ensures { IfOk result (λ copy. copy ≡ self.now) }
     {

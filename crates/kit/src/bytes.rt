@@ -36,7 +36,7 @@ impl From<Vec<u8>> for Bytes {
 }
 
 impl Bytes {
-    /// A copy of the bytes. Takes memory, and is `Err` only where there is none.
+    /// A copy of the bytes. Takes memory; `Err` only when it runs out.
     pub fn from_slice(alloc: Global, bytes: &[u8]) -> Result<Self, Memory>
         ensures { IfOk result (λ copy. copy ≡ bytes.now) }
     {
@@ -51,7 +51,7 @@ impl Bytes {
         self.items.as_slice()
     }
 
-    /// A copy of the value. Takes memory, and is `Err` only where there is none.
+    /// A copy of the value. Takes memory; `Err` only when it runs out.
     pub fn copy(&self) -> Result<Self, Memory>
         ensures { IfOk result (λ copy. copy ≡ self.now) }
     {

@@ -60,7 +60,7 @@ fn ascii(alloc: Global, bytes: &[u8]) -> Result<String, Memory>
 /// The text of bytes of any length in a charset. In `Utf8` each longest run of bytes that begins a
 /// character and does not complete it becomes one U+FFFD, and so does each byte that begins none; in
 /// `Latin1` byte b is the character of number b; in `Ascii` each byte from 128 on becomes U+FFFD (RFC
-/// 3629, section 3; RFC 2045, section 2.2). Takes memory, and is `Err` only where there is none.
+/// 3629, section 3; RFC 2045, section 2.2). Takes memory; `Err` only when it runs out.
 pub fn to_text(alloc: Global, charset: Charset, bytes: &[u8]) -> Result<Text, Memory>
     ensures { IfOk result (λ text. text ≡ to_text charset bytes.now) }
 {

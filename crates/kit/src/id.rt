@@ -10,7 +10,7 @@ use std::alloc::Global;
 use std::marker::Model;
 
 /// No id is longer than a line may be (RFC 5322, section 2.1.1).
-const LONGEST: usize = 998;
+const MAX_LEN: usize = 998;
 
 /// A message id without its angle brackets: 1 to 998 bytes from 33 to 126, none of them `<` or `>`
 /// (RFC 5322, section 3.6.4). Compared byte by byte, so the case of letters counts.
@@ -40,12 +40,12 @@ fn are_id_bytes(bytes: &[u8]) -> bool
 fn is_id(bytes: &[u8]) -> bool
     ensures { result ≡ is_id bytes.now }
 {
-    1 <= bytes.len() && bytes.len() <= LONGEST && are_id_bytes(bytes)
+    1 <= bytes.len() && bytes.len() <= MAX_LEN && are_id_bytes(bytes)
 }
 
 impl Id {
     /// The bytes as an id: `None` exactly where they are none (RFC 5322, section 3.6.4). Takes memory
-    /// for an id, and is `Err` only where there is none left.
+    /// for an id; `Err` only when it runs out.
     pub fn read(alloc: Global, bytes: &[u8]) -> Result<Option<Self>, Memory>
         ensures { IfOk result (λ read. read ≡ read_as is_id bytes.now) }
     {
@@ -64,7 +64,7 @@ impl Id {
         self.bytes.bytes()
     }
 
-    /// A copy of the id. Takes memory, and is `Err` only where there is none.
+    /// A copy of the id. Takes memory; `Err` only when it runs out.
     pub fn copy(&self) -> Result<Self, Memory>
         ensures { IfOk result (λ copy. copy ≡ self.now) }
     {

@@ -1,11 +1,13 @@
-//! Want of memory.
+//! Out of memory.
 use std::alloc::{AllocError, AllocFailed};
+use thiserror::Error;
 
-// Want of memory is free: no clause says when it comes, since no caller can know. So a body that only
+// Out of memory is free: no clause says when it comes, since no caller can know. So a body that only
 // answers `Err(Memory)` meets each contract that allows the answer.
 
-/// No memory was left: the error of each call that takes memory, and of nothing else.
-#[derive(Clone, Copy, Debug, PartialEq, Eq, Hash)]
+/// Memory ran out: the error of each call that takes memory, and of nothing else.
+#[derive(Clone, Copy, Debug, PartialEq, Eq, Hash, Error)]
+#[error("out of memory")]
 pub struct Memory;
 
 impl From<AllocError> for Memory {

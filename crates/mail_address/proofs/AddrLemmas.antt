@@ -25,8 +25,8 @@ record Inner (b : ℕ) : Type 0 where
 inner : (b : ℕ) → is_inner b ≡ true → Inner b
 inner b h =
     let parts = and_parts (is_addr_byte b && not (b == 64)) (not (b == 58)) h in
-    let front = and_parts (is_addr_byte b) (not (b == 64)) parts.0 in
-    record { of_addr = front.0; no_at = not-true (b == 64) front.1; no_colon = not-true (b == 58) parts.1 }
+    let first = and_parts (is_addr_byte b) (not (b == 64)) parts.0 in
+    record { of_addr = first.0; no_at = not-true (b == 64) first.1; no_colon = not-true (b == 58) parts.1 }
 
 all_inner : (bytes : List ℕ) → list_all is_dot_byte bytes ≡ true → list_all is_inner (lowered bytes) ≡ true
 all_inner [] all = refl
@@ -36,10 +36,10 @@ all_inner (b ∷ bs) all =
     (of_dot_byte (λ b. is_inner (to_ascii_lowercase b)) refl b parts.0) (all_inner bs parts.1)
 
 addr_bytes : (xs ys : List ℕ) → list_all is_inner xs ≡ true → list_all is_addr_byte ys ≡ true → list_all is_addr_byte (xs ++ ys) ≡ true
-addr_bytes [] ys front back = back
-addr_bytes (x ∷ xs) ys front back =
-    let parts = and_parts (is_inner x) (list_all is_inner xs) front in
-    and_from (is_addr_byte x) (list_all is_addr_byte (xs ++ ys)) (inner x parts.0).of_addr (addr_bytes xs ys parts.1 back)
+addr_bytes [] ys first second = second
+addr_bytes (x ∷ xs) ys first second =
+    let parts = and_parts (is_inner x) (list_all is_inner xs) first in
+    and_from (is_addr_byte x) (list_all is_addr_byte (xs ++ ys)) (inner x parts.0).of_addr (addr_bytes xs ys parts.1 second)
 
 just_addr_bytes : (xs : List ℕ) → list_all is_inner xs ≡ true → list_all is_addr_byte xs ≡ true
 just_addr_bytes [] all = refl
@@ -57,8 +57,8 @@ no_ats (x ∷ xs) all =
     sum_by-cons _ x xs ∙ rw (inner x parts.0).no_at (omega (arith, no_ats xs parts.1))
 
 one_at : (xs ys : List ℕ) → list_all is_inner xs ≡ true → list_all is_inner ys ≡ true → ats (xs ++ (64 ∷ ys)) ≡ 1
-one_at xs ys front back =
-    sum_by-append _ xs (64 ∷ ys) ∙ omega (arith, no_ats xs front, no_ats ys back, sum_by-cons (λ (b : ℕ). cond (b == 64) 1 0) 64 ys)
+one_at xs ys first second =
+    sum_by-append _ xs (64 ∷ ys) ∙ omega (arith, no_ats xs first, no_ats ys second, sum_by-cons (λ (b : ℕ). cond (b == 64) 1 0) 64 ys)
 
 no_colons : (inside : Bool) (xs : List ℕ) → list_all is_inner xs ≡ true → has_inner_colons inside xs ≡ true
 no_colons inside [] all = refl
@@ -67,23 +67,23 @@ no_colons inside (x ∷ xs) all =
     and_from (inside || not (x == 58)) _ (or_right inside (not (x == 58)) (not_from_false (x == 58) (inner x parts.0).no_colon)) (no_colons (x == 91 || inside && not (x == 93)) xs parts.1)
 
 no_colons_round_at : (inside : Bool) (xs ys : List ℕ) → list_all is_inner xs ≡ true → list_all is_inner ys ≡ true → has_inner_colons inside (xs ++ (64 ∷ ys)) ≡ true
-no_colons_round_at inside [] ys front back = and_from (inside || true) _ (or_right inside true refl) (no_colons (64 == 91 || inside && not (64 == 93)) ys back)
-no_colons_round_at inside (x ∷ xs) ys front back =
-    let parts = and_parts (is_inner x) (list_all is_inner xs) front in
-    and_from (inside || not (x == 58)) _ (or_right inside (not (x == 58)) (not_from_false (x == 58) (inner x parts.0).no_colon)) (no_colons_round_at (x == 91 || inside && not (x == 93)) xs ys parts.1 back)
+no_colons_round_at inside [] ys first second = and_from (inside || true) _ (or_right inside true refl) (no_colons (64 == 91 || inside && not (64 == 93)) ys second)
+no_colons_round_at inside (x ∷ xs) ys first second =
+    let parts = and_parts (is_inner x) (list_all is_inner xs) first in
+    and_from (inside || not (x == 58)) _ (or_right inside (not (x == 58)) (not_from_false (x == 58) (inner x parts.0).no_colon)) (no_colons_round_at (x == 91 || inside && not (x == 93)) xs ys parts.1 second)
 
 -- the last byte of a list that is not empty
 record Ending (bytes : List ℕ) : Type 0 where
-  pub front : List ℕ
+  pub prefix : List ℕ
   pub last : ℕ
-  pub whole : bytes ≡ front ++ (last ∷ [])
+  pub whole : bytes ≡ prefix ++ (last ∷ [])
   pub inside : is_inner last ≡ true
 
 ending : (b : ℕ) (bs : List ℕ) → list_all is_inner (b ∷ bs) ≡ true → Ending (b ∷ bs)
-ending b [] all = record { front = []; last = b; whole = refl; inside = (and_parts (is_inner b) true all).0 }
+ending b [] all = record { prefix = []; last = b; whole = refl; inside = (and_parts (is_inner b) true all).0 }
 ending b (c ∷ bs) all =
     let e = ending c bs (and_parts (is_inner b) (list_all is_inner (c ∷ bs)) all).1 in
-    record { front = b ∷ e.front; last = e.last; whole = ap (λ (xs : List ℕ). b ∷ xs) e.whole; inside = e.inside }
+    record { prefix = b ∷ e.prefix; last = e.last; whole = ap (λ (xs : List ℕ). b ∷ xs) e.whole; inside = e.inside }
 
 at_never : (b : ℕ) → is_inner b ≡ true → nat_eq 64 b ≡ false
 at_never b h = ne_eqb 64 b (λ e. eqb-false b 64 (inner b h).no_at (sym e))
@@ -92,12 +92,12 @@ ends_otherwise : (xs ys : List ℕ) → 0 < length ys → list_all is_inner ys �
 ends_otherwise xs [] some all = absurd (omega arith)
 ends_otherwise xs (y ∷ ys) some all =
     let e = ending y ys all in
-    let front = xs ++ e.front in
-    let is : xs ++ (y ∷ ys) ≡ front ++ (e.last ∷ []) = ap (λ zs. xs ++ zs) e.whole ∙ sym (append_assoc xs e.front (e.last ∷ [])) in
-    let at : length (front ++ (e.last ∷ [])) - 1 ≡ length front = omega (arith, length-append front (e.last ∷ [])) in
+    let prefix = xs ++ e.prefix in
+    let is : xs ++ (y ∷ ys) ≡ prefix ++ (e.last ∷ []) = ap (λ zs. xs ++ zs) e.whole ∙ sym (append_assoc xs e.prefix (e.last ∷ [])) in
+    let at : length (prefix ++ (e.last ∷ [])) - 1 ≡ length prefix = omega (arith, length-append prefix (e.last ∷ [])) in
     ap (λ zs. ends_with nat_eq zs (codes "@")) is
-    ∙ ap (λ n. pointwise nat_eq (codes "@") (drop n (front ++ (e.last ∷ [])))) at
-    ∙ ap (pointwise nat_eq (codes "@")) (drop-append_seam front (e.last ∷ []))
+    ∙ ap (λ n. pointwise nat_eq (codes "@") (drop n (prefix ++ (e.last ∷ [])))) at
+    ∙ ap (pointwise nat_eq (codes "@")) (drop-append_seam prefix (e.last ∷ []))
     ∙ rw (at_never e.last e.inside) refl
 
 starts_otherwise : (xs ys : List ℕ) → 0 < length xs → list_all is_inner xs ≡ true → starts_with nat_eq (xs ++ ys) (codes "@") ≡ false
@@ -128,10 +128,10 @@ joined_is_addr a is =
     let short : nat_le 3 (length (joined a)) ≡ true = le-leb _ _ (omega (arith, len, some_l, some_d)) in
     let long : nat_le (length (joined a)) 254 ≡ true = le-leb _ _ (omega (arith, len, written_len, leb-true _ _ parts.1)) in
     let bytes : list_all is_addr_byte (joined a) ≡ true = addr_bytes l (64 ∷ d) inner_l (just_addr_bytes d inner_d) in
-    let front : starts_with nat_eq (joined a) (codes "@") ≡ false = starts_otherwise l (64 ∷ d) (omega (arith, some_l)) inner_l in
-    let back : ends_with nat_eq (joined a) (codes "@") ≡ false =
+    let first : starts_with nat_eq (joined a) (codes "@") ≡ false = starts_otherwise l (64 ∷ d) (omega (arith, some_l)) inner_l in
+    let second : ends_with nat_eq (joined a) (codes "@") ≡ false =
     ap (λ zs. ends_with nat_eq zs (codes "@")) (sym (append_assoc l (64 ∷ []) d)) ∙ ends_otherwise (l ++ (64 ∷ [])) d (omega (arith, some_d)) inner_d in
-    let at : has_inner_at (joined a) ≡ true = rw (one_at l d inner_l inner_d, front, back) refl in
+    let at : has_inner_at (joined a) ≡ true = rw (one_at l d inner_l inner_d, first, second) refl in
     let colons : has_inner_colons false (joined a) ≡ true = no_colons_round_at false l d inner_l inner_d in
     and_from _ _ (and_from _ _ (and_from _ _ (and_from _ _ short long) bytes) at) colons
 

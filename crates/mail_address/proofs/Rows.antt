@@ -69,9 +69,9 @@ group_name_is_no_address : people (codes "a@b:;") ≡ []
 unfolding utf8_lossy utf8_valid_len utf8_error_len is_utf8 chars lib.Utf8.encode
 group_name_is_no_address = refl
 
-behind_a_semicolon : people (codes "A: a@b; c@d, e@f") ≡ person (codes "a@b") [] ∷ person (codes "c@d") [] ∷ person (codes "e@f") [] ∷ []
+after_a_semicolon : people (codes "A: a@b; c@d, e@f") ≡ person (codes "a@b") [] ∷ person (codes "c@d") [] ∷ person (codes "e@f") [] ∷ []
 unfolding utf8_lossy utf8_valid_len utf8_error_len is_utf8 chars lib.Utf8.encode
-behind_a_semicolon = refl
+after_a_semicolon = refl
 
 comma_in_angle : people (codes "<a@b,c@d>") ≡ []
 unfolding utf8_lossy utf8_valid_len utf8_error_len is_utf8 chars lib.Utf8.encode

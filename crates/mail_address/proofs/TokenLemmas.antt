@@ -5,9 +5,10 @@ use Rattle.std.specs.Option.{unwrap_or}
 use Rattle.std.proofs.lemmas.Bool.{cases_Bool, ltb-false}
 use Rattle.std.proofs.lemmas.List.{take_all, drop_all}
 use Rattle.std.proofs.lemmas.List.Sums.{prefix_len-le-length}
-use Rattle.mail_address.specs.Tokens.{Token, Atom, Quoted, tokens, tokens_behind, ends_atom, quoted_len, unquoted, without_first}
+use Rattle.mail_address.specs.Tokens.{Token, Atom, Quoted, tokens, tokens_after, ends_atom, quoted_len, unquoted}
+use Rattle.mail_address.specs.States.{without_first}
 
-pub skipped : (k : ℕ) (bs : List ℕ) → tokens_behind k bs ≡ tokens (drop k bs)
+pub skipped : (k : ℕ) (bs : List ℕ) → tokens_after k bs ≡ tokens (drop k bs)
 skipped zero bs = refl
 skipped (suc k) [] = refl
 skipped (suc k) (b ∷ bs) = skipped k bs
@@ -22,12 +23,12 @@ pub tokens-quoted : (bs : List ℕ)
     → tokens (34 ∷ bs) ≡ Quoted (unquoted false (take (quoted_len false bs) bs)) ∷ tokens (without_first (drop (quoted_len false bs) bs))
 tokens-quoted bs =
     let len = quoted_len false bs in
-    let behind : drop (len + 1) bs ≡ without_first (drop len bs) = rw add-one (without_first-drop len bs) in
-    ap (λ (ts : List Token). Quoted (unquoted false (take len bs)) ∷ ts) (skipped (len + 1) bs ∙ ap tokens behind)
+    let after : drop (len + 1) bs ≡ without_first (drop len bs) = rw add-one (without_first-drop len bs) in
+    ap (λ (ts : List Token). Quoted (unquoted false (take len bs)) ∷ ts) (skipped (len + 1) bs ∙ ap tokens after)
 
--- a place or the length is the first place that passes, or the length
-pub place_or_length : (p : ℕ → Bool) (bytes : List ℕ) → unwrap_or (position p bytes) (length bytes) ≡ position_or_len p bytes
-place_or_length p bytes =
+-- a position or the length is the first position that passes, or the length
+pub position_or_length : (p : ℕ → Bool) (bytes : List ℕ) → unwrap_or (position p bytes) (length bytes) ≡ position_or_len p bytes
+position_or_length p bytes =
     elim (cases_Bool (nat_lt (position_or_len p bytes) (length bytes))) [
       | inl before ↦ rw before refl
       | inr at_end ↦ rw at_end (omega (arith, prefix_len-le-length (λ b. not (p b)) bytes, ltb-false _ _ at_end))
@@ -44,7 +45,7 @@ tokens-atom (b ∷ bs) some first =
     let is = begins_atom b first in
     let len = position_or_len ends_atom bs in
     let more : position_or_len ends_atom (b ∷ bs) ≡ suc len = rw first (omega arith) in
-    let here : tokens (b ∷ bs) ≡ Atom (b ∷ take len bs) ∷ tokens_behind len bs = rw (is.0, is.1, is.2, first) refl in
+    let here : tokens (b ∷ bs) ≡ Atom (b ∷ take len bs) ∷ tokens_after len bs = rw (is.0, is.1, is.2, first) refl in
     let P : ℕ → Type 0 = λ n. tokens (b ∷ bs) ≡ Atom (take n (b ∷ bs)) ∷ tokens (drop n (b ∷ bs)) in
     subst P (sym more) (here ∙ ap (λ (ts : List Token). Atom (b ∷ take len bs) ∷ ts) (skipped len bs))
 
@@ -64,14 +65,14 @@ tokens-literal (b ∷ bs) first =
 pub literal_closed : (bytes : List ℕ) (at : ℕ) → get_or bytes 0 0 ≡ 91 → Some at ≡ position closes bytes
     → tokens bytes ≡ Atom (take (at + 1) bytes) ∷ tokens (drop (at + 1) bytes)
 literal_closed bytes at first is =
-    let here : at ≡ position_or_len closes bytes = ap (λ o. unwrap_or o (length bytes)) is ∙ place_or_length closes bytes in
+    let here : at ≡ position_or_len closes bytes = ap (λ o. unwrap_or o (length bytes)) is ∙ position_or_length closes bytes in
     subst (λ n. tokens bytes ≡ Atom (take (n + 1) bytes) ∷ tokens (drop (n + 1) bytes)) (sym here) (tokens-literal bytes first)
 
 pub literal_open : (bytes : List ℕ) → get_or bytes 0 0 ≡ 91 → None ≡ position closes bytes
     → tokens bytes ≡ Atom (take (length bytes) bytes) ∷ tokens (drop (length bytes) bytes)
 literal_open bytes first is =
-    let here : length bytes ≡ position_or_len closes bytes = ap (λ o. unwrap_or o (length bytes)) is ∙ place_or_length closes bytes in
+    let here : length bytes ≡ position_or_len closes bytes = ap (λ o. unwrap_or o (length bytes)) is ∙ position_or_length closes bytes in
     let len = position_or_len closes bytes + 1 in
-    let front : take len bytes ≡ take (length bytes) bytes = take_all len bytes (omega arith) ∙ sym (take_all (length bytes) bytes (omega arith)) in
-    let behind : drop len bytes ≡ drop (length bytes) bytes = drop_all len bytes (omega arith) ∙ sym (drop_all (length bytes) bytes (omega arith)) in
-    tokens-literal bytes first ∙ ap (λ (bs : List ℕ). Atom bs ∷ tokens (drop len bytes)) front ∙ ap (λ (bs : List ℕ). Atom (take (length bytes) bytes) ∷ tokens bs) behind
+    let taken : take len bytes ≡ take (length bytes) bytes = take_all len bytes (omega arith) ∙ sym (take_all (length bytes) bytes (omega arith)) in
+    let after : drop len bytes ≡ drop (length bytes) bytes = drop_all len bytes (omega arith) ∙ sym (drop_all (length bytes) bytes (omega arith)) in
+    tokens-literal bytes first ∙ ap (λ (bs : List ℕ). Atom bs ∷ tokens (drop len bytes)) taken ∙ ap (λ (bs : List ℕ). Atom (take (length bytes) bytes) ∷ tokens bs) after

@@ -10,53 +10,53 @@ use Rattle.std.proofs.lemmas.List.{append-nil}
 use Rattle.kit.specs.Letters.{lowered}
 use Rattle.kit.specs.Addresses.{is_addr}
 use Rattle.kit.specs.Reading.{read_as}
-use Rattle.encoded_words.specs.Pieces.{decode_words}
-use Rattle.mail_address.specs.declared.element.Place.TheVariants.{Before, Inside, Behind}
-use Rattle.mail_address.specs.Tokens.{Token, Atom, Quoted, Open, Close, Colon, End, tokens, without_first}
-use Rattle.mail_address.specs.People.{people, said}
-use Rattle.mail_address.specs.States.{Atoms, State, nothing, put, start, person_at}
+use Rattle.encoded_words.specs.Runs.{decode_words}
+use Rattle.mail_address.specs.declared.element.Position.TheVariants.{BeforeAngle, InAngle, AfterAngle}
+use Rattle.mail_address.specs.Tokens.{Token, Atom, Quoted, Open, Close, Colon, End, tokens}
+use Rattle.mail_address.specs.People.{people, token_text}
+use Rattle.mail_address.specs.States.{Atoms, State, nothing, put, start, person_at, without_first}
 use Rattle.mail_address.specs.Written.{Word, Bare, InQuotes, Mailbox, Alone, Named, AddrSpec, word_text, written_addr, written_box, written_boxes, written_phrase, written_address, written, is_addr_spec, is_word, is_mailbox, named_person, Address, Single, Group, is_address, named_people}
 use Rattle.mail_address.proofs.AddrLemmas.{written_is_addr}
 use Rattle.mail_address.proofs.WrittenTokens.{stops, word_token, box_tokens, tokens-box, phrase_tokens}
-use Rattle.mail_address.proofs.Rest.{left, left-start, left-none, named, spaced, named_words, turn_at}
+use Rattle.mail_address.proofs.Rest.{left, left-start, left-none, named, spaced, named_words, step_at}
 
 -- no words are no name
 nameless : decode_words [] ≡ []
 unfolding utf8_lossy utf8_valid_len utf8_error_len is_utf8 chars lib.Utf8.encode
 nameless = refl
 
--- the state behind a mailbox
+-- the state after a mailbox
 abbrev box_state : Mailbox → State
-box_state (Alone addr) = record { place = Before; address = put nothing (Atom (written_addr addr)); name = 32 ∷ written_addr addr }
+box_state (Alone addr) = record { position = BeforeAngle; address = put nothing (Atom (written_addr addr)); name = 32 ∷ written_addr addr }
 box_state (Named phrase addr) =
-    record { place = Behind; address = put nothing (Atom (written_addr addr)); name = spaced (map word_token phrase) }
+    record { position = AfterAngle; address = put nothing (Atom (written_addr addr)); name = spaced (map word_token phrase) }
 
--- a phrase and the angle behind it
+-- a phrase and the angle after it
 phrase_left : (a : Atoms) (kept : List ℕ) (words : List Word) (ts : List Token)
-    → left (record { place = Before; address = a; name = kept }) (map word_token words ++ (Open ∷ ts))
-    ≡ left (record { place = Inside; address = nothing; name = kept ++ spaced (map word_token words) }) ts
+    → left (record { position = BeforeAngle; address = a; name = kept }) (map word_token words ++ (Open ∷ ts))
+    ≡ left (record { position = InAngle; address = nothing; name = kept ++ spaced (map word_token words) }) ts
 phrase_left a kept [] ts =
-    turn_at Before a kept Open ts ∙ ap (λ name. left (record { place = Inside; address = nothing; name = name }) ts) (sym (append-nil kept))
+    step_at BeforeAngle a kept Open ts ∙ ap (λ name. left (record { position = InAngle; address = nothing; name = name }) ts) (sym (append-nil kept))
 phrase_left a kept (Bare text ∷ ws) ts =
-    turn_at Before a kept (Atom text) (map word_token ws ++ (Open ∷ ts))
+    step_at BeforeAngle a kept (Atom text) (map word_token ws ++ (Open ∷ ts))
     ∙ phrase_left (put a (Atom text)) (kept ++ (32 ∷ text)) ws ts
-    ∙ ap (λ name. left (record { place = Inside; address = nothing; name = name }) ts) (append_assoc kept (32 ∷ text) (spaced (map word_token ws)))
+    ∙ ap (λ name. left (record { position = InAngle; address = nothing; name = name }) ts) (append_assoc kept (32 ∷ text) (spaced (map word_token ws)))
 phrase_left a kept (InQuotes text ∷ ws) ts =
-    turn_at Before a kept (Quoted text) (map word_token ws ++ (Open ∷ ts))
+    step_at BeforeAngle a kept (Quoted text) (map word_token ws ++ (Open ∷ ts))
     ∙ phrase_left (put a (Quoted text)) (kept ++ (32 ∷ text)) ws ts
-    ∙ ap (λ name. left (record { place = Inside; address = nothing; name = name }) ts) (append_assoc kept (32 ∷ text) (spaced (map word_token ws)))
+    ∙ ap (λ name. left (record { position = InAngle; address = nothing; name = name }) ts) (append_assoc kept (32 ∷ text) (spaced (map word_token ws)))
 
 box_left : (m : Mailbox) (ts : List Token) → left start (box_tokens m ++ ts) ≡ left (box_state m) ts
-box_left (Alone addr) ts = turn_at Before nothing [] (Atom (written_addr addr)) ts
+box_left (Alone addr) ts = step_at BeforeAngle nothing [] (Atom (written_addr addr)) ts
 box_left (Named phrase addr) ts =
     let name = spaced (map word_token phrase) in
     let atom = Atom (written_addr addr) in
     ap (left start) (append_assoc (map word_token phrase) (Open ∷ atom ∷ Close ∷ []) ts)
     ∙ phrase_left nothing [] phrase (atom ∷ Close ∷ ts)
-    ∙ turn_at Inside nothing name atom (Close ∷ ts)
-    ∙ turn_at Inside (put nothing atom) name Close ts
+    ∙ step_at InAngle nothing name atom (Close ∷ ts)
+    ∙ step_at InAngle (put nothing atom) name Close ts
 
-word_texts : (words : List Word) → map said (map word_token words) ≡ map word_text words
+word_texts : (words : List Word) → map token_text (map word_token words) ≡ map word_text words
 word_texts [] = refl
 word_texts (Bare text ∷ ws) = ap (λ (ts : List (List ℕ)). text ∷ ts) (word_texts ws)
 word_texts (InQuotes text ∷ ws) = ap (λ (ts : List (List ℕ)). text ∷ ts) (word_texts ws)
@@ -77,21 +77,21 @@ box_person (Named phrase addr) is =
 
 -- ---- lists
 
--- What follows a written mailbox: nothing, or a comma or a semicolon. Behind it the tokens are read from the start.
-record Ends (behind : List ℕ) (ts : List Token) : Type 0 where
-  pub stop : stops behind ≡ true
-  pub box : (m : Mailbox) → left (box_state m) (tokens behind) ≡ cons_option (person_at (box_state m)) (left start ts)
-  pub fresh : left start (tokens behind) ≡ left start ts
+-- What follows a written mailbox: nothing, or a comma or a semicolon. After it the tokens are read from the start.
+record Ends (after : List ℕ) (ts : List Token) : Type 0 where
+  pub stop : stops after ≡ true
+  pub box : (m : Mailbox) → left (box_state m) (tokens after) ≡ cons_option (person_at (box_state m)) (left start ts)
+  pub fresh : left start (tokens after) ≡ left start ts
 
 end_left : (m : Mailbox) (ts : List Token) → left (box_state m) (End ∷ ts) ≡ cons_option (person_at (box_state m)) (left start ts)
-end_left (Alone addr) ts = turn_at Before (put nothing (Atom (written_addr addr))) (32 ∷ written_addr addr) End ts
-end_left (Named phrase addr) ts = turn_at Behind (put nothing (Atom (written_addr addr))) (spaced (map word_token phrase)) End ts
+end_left (Alone addr) ts = step_at BeforeAngle (put nothing (Atom (written_addr addr))) (32 ∷ written_addr addr) End ts
+end_left (Named phrase addr) ts = step_at AfterAngle (put nothing (Atom (written_addr addr))) (spaced (map word_token phrase)) End ts
 
-at_mark : (behind : List ℕ) (ts : List Token) → stops behind ≡ true → tokens behind ≡ End ∷ ts → Ends behind ts
-at_mark behind ts stop is = record {
+at_mark : (after : List ℕ) (ts : List Token) → stops after ≡ true → tokens after ≡ End ∷ ts → Ends after ts
+at_mark after ts stop is = record {
   stop = stop;
   box = λ m. ap (left (box_state m)) is ∙ end_left m ts;
-  fresh = ap (left start) is ∙ turn_at Before nothing [] End ts;
+  fresh = ap (left start) is ∙ step_at BeforeAngle nothing [] End ts;
 }
 
 at_end : Ends [] []
@@ -99,35 +99,35 @@ at_end = record { stop = refl; box = λ m. left-none (box_state m); fresh = refl
 
 -- what is written of one element, and whom it names
 abbrev One : {X : Type 0} → (X → List ℕ) → (X → List Person) → (X → Bool) → Type 0
-One {X} text who test = (x : X) (behind : List ℕ) (ts : List Token) → test x ≡ true → Ends behind ts
-    → left start (tokens (text x ++ behind)) ≡ who x ++ left start ts
+One {X} text who test = (x : X) (after : List ℕ) (ts : List Token) → test x ≡ true → Ends after ts
+    → left start (tokens (text x ++ after)) ≡ who x ++ left start ts
 
 module _ {X : Type 0} (text : X → List ℕ) (who : X → List Person) (test : X → Bool) (one : One text who test) where
-  more_left : (x : X) (xs : List X) (behind : List ℕ) (ts : List Token) → test x ≡ true → list_all test xs ≡ true → Ends behind ts
-      → left start (tokens (join_by text (codes ", ") (x ∷ xs) ++ behind)) ≡ flat_map who (x ∷ xs) ++ left start ts
-  more_left x [] behind ts is all ends =
-      ap (λ bytes. left start (tokens (bytes ++ behind))) (append-nil (text x))
-      ∙ one x behind ts is ends
+  more_left : (x : X) (xs : List X) (after : List ℕ) (ts : List Token) → test x ≡ true → list_all test xs ≡ true → Ends after ts
+      → left start (tokens (join_by text (codes ", ") (x ∷ xs) ++ after)) ≡ flat_map who (x ∷ xs) ++ left start ts
+  more_left x [] after ts is all ends =
+      ap (λ bytes. left start (tokens (bytes ++ after))) (append-nil (text x))
+      ∙ one x after ts is ends
       ∙ ap (λ people. people ++ left start ts) (sym (append-nil (who x)))
-  more_left x (y ∷ ys) behind ts is all ends =
+  more_left x (y ∷ ys) after ts is all ends =
       let parts = and_parts (test y) (list_all test ys) all in
-      let rest = join_by text (codes ", ") (y ∷ ys) ++ behind in
-      ap (λ bytes. left start (tokens bytes)) (append_assoc (text x) (44 ∷ 32 ∷ join_by text (codes ", ") (y ∷ ys)) behind)
+      let rest = join_by text (codes ", ") (y ∷ ys) ++ after in
+      ap (λ bytes. left start (tokens bytes)) (append_assoc (text x) (44 ∷ 32 ∷ join_by text (codes ", ") (y ∷ ys)) after)
       ∙ one x (44 ∷ 32 ∷ rest) (tokens rest) is (at_mark (44 ∷ 32 ∷ rest) (tokens rest) refl refl)
-      ∙ ap (λ people. who x ++ people) (more_left y ys behind ts parts.0 parts.1 ends)
+      ∙ ap (λ people. who x ++ people) (more_left y ys after ts parts.0 parts.1 ends)
       ∙ sym (append_assoc (who x) (flat_map who (y ∷ ys)) (left start ts))
 
-  list_left : (xs : List X) (behind : List ℕ) (ts : List Token) → list_all test xs ≡ true → Ends behind ts
-      → left start (tokens (join_by text (codes ", ") xs ++ behind)) ≡ flat_map who xs ++ left start ts
-  list_left [] behind ts all ends = ends.fresh
-  list_left (x ∷ xs) behind ts all ends =
+  list_left : (xs : List X) (after : List ℕ) (ts : List Token) → list_all test xs ≡ true → Ends after ts
+      → left start (tokens (join_by text (codes ", ") xs ++ after)) ≡ flat_map who xs ++ left start ts
+  list_left [] after ts all ends = ends.fresh
+  list_left (x ∷ xs) after ts all ends =
       let parts = and_parts (test x) (list_all test xs) all in
-      more_left x xs behind ts parts.0 parts.1 ends
+      more_left x xs after ts parts.0 parts.1 ends
 
 one_box : One written_box (λ m. named_person m ∷ []) is_mailbox
-one_box m behind ts is ends =
-    ap (left start) (tokens-box m behind is ends.stop)
-    ∙ box_left m (tokens behind)
+one_box m after ts is ends =
+    ap (left start) (tokens-box m after is ends.stop)
+    ∙ box_left m (tokens after)
     ∙ ends.box m
     ∙ ap (λ person. cons_option person (left start ts)) (box_person m is)
 
@@ -137,25 +137,25 @@ each_named (m ∷ ms) = ap (λ people. named_person m ∷ people) (each_named ms
 
 -- the name of a group is dropped at its colon
 group_left : (a : Atoms) (kept : List ℕ) (words : List Word) (ts : List Token)
-    → left (record { place = Before; address = a; name = kept }) (map word_token words ++ (Colon ∷ ts)) ≡ left start ts
-group_left a kept [] ts = turn_at Before a kept Colon ts
+    → left (record { position = BeforeAngle; address = a; name = kept }) (map word_token words ++ (Colon ∷ ts)) ≡ left start ts
+group_left a kept [] ts = step_at BeforeAngle a kept Colon ts
 group_left a kept (Bare text ∷ ws) ts =
-    turn_at Before a kept (Atom text) (map word_token ws ++ (Colon ∷ ts)) ∙ group_left (put a (Atom text)) (kept ++ (32 ∷ text)) ws ts
+    step_at BeforeAngle a kept (Atom text) (map word_token ws ++ (Colon ∷ ts)) ∙ group_left (put a (Atom text)) (kept ++ (32 ∷ text)) ws ts
 group_left a kept (InQuotes text ∷ ws) ts =
-    turn_at Before a kept (Quoted text) (map word_token ws ++ (Colon ∷ ts)) ∙ group_left (put a (Quoted text)) (kept ++ (32 ∷ text)) ws ts
+    step_at BeforeAngle a kept (Quoted text) (map word_token ws ++ (Colon ∷ ts)) ∙ group_left (put a (Quoted text)) (kept ++ (32 ∷ text)) ws ts
 
 one_address : One written_address named_people is_address
-one_address (Single mailbox) behind ts is ends = one_box mailbox behind ts is ends
-one_address (Group name members) behind ts is ends =
+one_address (Single mailbox) after ts is ends = one_box mailbox after ts is ends
+one_address (Group name members) after ts is ends =
     let parts = and_parts (list_all is_word name) (list_all is_mailbox members) is in
-    let inside = written_boxes members ++ (59 ∷ behind) in
-    ap (λ bytes. left start (tokens bytes)) (append_assoc (written_phrase name) (58 ∷ (written_boxes members ++ (59 ∷ []))) behind)
-    ∙ ap (λ bytes. left start (tokens (written_phrase name ++ (58 ∷ bytes)))) (append_assoc (written_boxes members) (59 ∷ []) behind)
+    let inside = written_boxes members ++ (59 ∷ after) in
+    ap (λ bytes. left start (tokens bytes)) (append_assoc (written_phrase name) (58 ∷ (written_boxes members ++ (59 ∷ []))) after)
+    ∙ ap (λ bytes. left start (tokens (written_phrase name ++ (58 ∷ bytes)))) (append_assoc (written_boxes members) (59 ∷ []) after)
     ∙ ap (left start) (phrase_tokens name (58 ∷ inside) parts.0)
     ∙ group_left nothing [] name (tokens inside)
-    ∙ list_left written_box (λ m. named_person m ∷ []) is_mailbox one_box members (59 ∷ behind) (tokens behind) parts.1
-    (at_mark (59 ∷ behind) (tokens behind) refl refl)
-    ∙ ap (λ people. people ++ left start (tokens behind)) (each_named members)
+    ∙ list_left written_box (λ m. named_person m ∷ []) is_mailbox one_box members (59 ∷ after) (tokens after) parts.1
+    (at_mark (59 ∷ after) (tokens after) refl refl)
+    ∙ ap (λ people. people ++ left start (tokens after)) (each_named members)
     ∙ ap (λ people. map named_person members ++ people) ends.fresh
 
 pub people-written : (addresses : List Address) → list_all is_address addresses ≡ true → people (written addresses) ≡ flat_map named_people addresses

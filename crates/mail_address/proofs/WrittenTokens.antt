@@ -4,8 +4,9 @@ use Rattle.std.specs.Prelude.{map}
 use Rattle.std.specs.List.{list_all, position_or_len}
 use Rattle.std.proofs.lemmas.Bool.{cases_Bool, and_parts, and_from, not-true, eqb-true, or_parts, or_cases, agree_below, agree_below_at}
 use Rattle.std.specs.Char.{is_ascii_graphic}
-use Rattle.mail_address.specs.Tokens.{Token, Atom, Quoted, Open, Close, tokens, ends_atom, quoted_len, unquoted, without_first}
-use Rattle.mail_address.specs.Written.{Word, Bare, InQuotes, Mailbox, Alone, Named, is_atext, is_dotted, is_word, escaped, written_word, written_addr, written_phrase, written_box, is_addr_spec, is_mailbox, AddrSpec}
+use Rattle.mail_address.specs.Tokens.{Token, Atom, Quoted, Open, Close, tokens, ends_atom, quoted_len, unquoted}
+use Rattle.mail_address.specs.States.{without_first}
+use Rattle.mail_address.specs.Written.{Word, Bare, InQuotes, Mailbox, Alone, Named, is_atext, is_dotted, is_word, with_backslashes, written_word, written_addr, written_phrase, written_box, is_addr_spec, is_mailbox, AddrSpec}
 use Rattle.mail_address.proofs.TokenLemmas.{tokens-atom, tokens-quoted}
 
 -- whether an atom ends before these bytes
@@ -30,8 +31,8 @@ atom_tokens b text rest all end =
     let first : ends_atom b ≡ false = not-true (ends_atom b) (and_parts (continues b) (list_all continues text) all).0 in
     tokens-atom (b ∷ (text ++ rest)) (omega arith) first
     ∙ ap (λ n. Atom (take n (bytes ++ rest)) ∷ tokens (drop n (bytes ++ rest))) (atom_len bytes rest all end)
-    ∙ ap (λ (front : List ℕ). Atom front ∷ tokens (drop (length bytes) (bytes ++ rest))) (take_at bytes rest (length bytes) refl)
-    ∙ ap (λ (behind : List ℕ). Atom bytes ∷ tokens behind) (drop_at bytes rest (length bytes) refl)
+    ∙ ap (λ (taken : List ℕ). Atom taken ∷ tokens (drop (length bytes) (bytes ++ rest))) (take_at bytes rest (length bytes) refl)
+    ∙ ap (λ (after : List ℕ). Atom bytes ∷ tokens after) (drop_at bytes rest (length bytes) refl)
 
 -- ---- bytes of atoms and dots
 
@@ -65,39 +66,39 @@ all_continue (b ∷ bs) all =
     and_from (continues b) (list_all continues bs) (dot_byte_continues b parts.0) (all_continue bs parts.1)
 
 all_append : (xs ys : List ℕ) → list_all continues xs ≡ true → list_all continues ys ≡ true → list_all continues (xs ++ ys) ≡ true
-all_append [] ys front back = back
-all_append (x ∷ xs) ys front back =
-    let parts = and_parts (continues x) (list_all continues xs) front in
-    and_from (continues x) (list_all continues (xs ++ ys)) parts.0 (all_append xs ys parts.1 back)
+all_append [] ys first second = second
+all_append (x ∷ xs) ys first second =
+    let parts = and_parts (continues x) (list_all continues xs) first in
+    and_from (continues x) (list_all continues (xs ++ ys)) parts.0 (all_append xs ys parts.1 second)
 
 -- ---- quoted strings
 
-quoted_len-escaped : (text rest : List ℕ) → quoted_len false (escaped text ++ (34 ∷ rest)) ≡ length (escaped text)
-quoted_len-escaped [] rest = refl
-quoted_len-escaped (b ∷ bs) rest = elim (cases_Bool (b == 34 || b == 92)) [
-  | inl pair ↦ rw pair (omega (arith, quoted_len-escaped bs rest))
+quoted_len-with_backslashes : (text rest : List ℕ) → quoted_len false (with_backslashes text ++ (34 ∷ rest)) ≡ length (with_backslashes text)
+quoted_len-with_backslashes [] rest = refl
+quoted_len-with_backslashes (b ∷ bs) rest = elim (cases_Bool (b == 34 || b == 92)) [
+  | inl marked ↦ rw marked (omega (arith, quoted_len-with_backslashes bs rest))
   | inr plain ↦ (
       let other = or_parts (b == 34) (b == 92) plain in
-      rw (plain, other.0, other.1) (omega (arith, quoted_len-escaped bs rest)))
+      rw (plain, other.0, other.1) (omega (arith, quoted_len-with_backslashes bs rest)))
 ]
 
-unquoted-escaped : (text : List ℕ) → unquoted false (escaped text) ≡ text
-unquoted-escaped [] = refl
-unquoted-escaped (b ∷ bs) = elim (cases_Bool (b == 34 || b == 92)) [
-  | inl pair ↦ rw pair (ap (λ (xs : List ℕ). b ∷ xs) (unquoted-escaped bs))
+unquoted-with_backslashes : (text : List ℕ) → unquoted false (with_backslashes text) ≡ text
+unquoted-with_backslashes [] = refl
+unquoted-with_backslashes (b ∷ bs) = elim (cases_Bool (b == 34 || b == 92)) [
+  | inl marked ↦ rw marked (ap (λ (xs : List ℕ). b ∷ xs) (unquoted-with_backslashes bs))
   | inr plain ↦ (
       let other = or_parts (b == 34) (b == 92) plain in
-      rw (plain, other.1) (ap (λ (xs : List ℕ). b ∷ xs) (unquoted-escaped bs)))
+      rw (plain, other.1) (ap (λ (xs : List ℕ). b ∷ xs) (unquoted-with_backslashes bs)))
 ]
 
-quoted_tokens : (text rest : List ℕ) → tokens (34 ∷ (escaped text ++ (34 ∷ rest))) ≡ Quoted text ∷ tokens rest
+quoted_tokens : (text rest : List ℕ) → tokens (34 ∷ (with_backslashes text ++ (34 ∷ rest))) ≡ Quoted text ∷ tokens rest
 quoted_tokens text rest =
-    let bytes = escaped text ++ (34 ∷ rest) in
+    let bytes = with_backslashes text ++ (34 ∷ rest) in
     tokens-quoted bytes
-    ∙ ap (λ n. Quoted (unquoted false (take n bytes)) ∷ tokens (without_first (drop n bytes))) (quoted_len-escaped text rest)
-    ∙ ap (λ inside. Quoted (unquoted false inside) ∷ tokens (without_first (drop (length (escaped text)) bytes))) (take_at (escaped text) (34 ∷ rest) (length (escaped text)) refl)
-    ∙ ap (λ said. Quoted said ∷ tokens (without_first (drop (length (escaped text)) bytes))) (unquoted-escaped text)
-    ∙ ap (λ behind. Quoted text ∷ tokens (without_first behind)) (drop_at (escaped text) (34 ∷ rest) (length (escaped text)) refl)
+    ∙ ap (λ n. Quoted (unquoted false (take n bytes)) ∷ tokens (without_first (drop n bytes))) (quoted_len-with_backslashes text rest)
+    ∙ ap (λ inside. Quoted (unquoted false inside) ∷ tokens (without_first (drop (length (with_backslashes text)) bytes))) (take_at (with_backslashes text) (34 ∷ rest) (length (with_backslashes text)) refl)
+    ∙ ap (λ inside. Quoted inside ∷ tokens (without_first (drop (length (with_backslashes text)) bytes))) (unquoted-with_backslashes text)
+    ∙ ap (λ after. Quoted text ∷ tokens (without_first after)) (drop_at (with_backslashes text) (34 ∷ rest) (length (with_backslashes text)) refl)
 
 -- ---- mailboxes
 
@@ -113,7 +114,7 @@ dotted_tokens (b ∷ text) rest is end =
 word_tokens : (w : Word) (rest : List ℕ) → is_word w ≡ true → tokens ((written_word w ++ (32 ∷ [])) ++ rest) ≡ word_token w ∷ tokens rest
 word_tokens (Bare text) rest is = ap tokens (append_assoc text (32 ∷ []) rest) ∙ dotted_tokens text (32 ∷ rest) is refl
 word_tokens (InQuotes text) rest is =
-    ap tokens (append_assoc (34 ∷ (escaped text ++ (34 ∷ []))) (32 ∷ []) rest ∙ ap (λ (xs : List ℕ). 34 ∷ xs) (append_assoc (escaped text) (34 ∷ []) (32 ∷ rest)))
+    ap tokens (append_assoc (34 ∷ (with_backslashes text ++ (34 ∷ []))) (32 ∷ []) rest ∙ ap (λ (xs : List ℕ). 34 ∷ xs) (append_assoc (with_backslashes text) (34 ∷ []) (32 ∷ rest)))
     ∙ quoted_tokens text (32 ∷ rest)
 
 pub phrase_tokens : (words : List Word) (rest : List ℕ) → list_all is_word words ≡ true
@@ -133,7 +134,7 @@ addr_continues a is =
     let domain = all_continue a.domain (and_parts (nat_le 1 (length a.domain)) (list_all is_dot_byte a.domain) dotted.1).1 in
     all_append a.local (64 ∷ a.domain) local domain
 
--- bytes that end no atom, with something at their front
+-- bytes that end no atom, at least one of them
 run_tokens : (text rest : List ℕ) → 0 < length text → list_all continues text ≡ true → stops rest ≡ true
     → tokens (text ++ rest) ≡ Atom text ∷ tokens rest
 run_tokens [] rest some all end = absurd (omega arith)
@@ -153,10 +154,10 @@ pub tokens-box : (m : Mailbox) (rest : List ℕ) → is_mailbox m ≡ true → s
 tokens-box (Alone addr) rest is end = addr_tokens addr rest is end
 tokens-box (Named phrase addr) rest is end =
     let parts = and_parts (list_all is_word phrase) (is_addr_spec addr) is in
-    let behind = written_addr addr ++ (62 ∷ rest) in
-    let at_end : (written_addr addr ++ (62 ∷ [])) ++ rest ≡ behind = append_assoc (written_addr addr) (62 ∷ []) rest in
+    let after = written_addr addr ++ (62 ∷ rest) in
+    let at_end : (written_addr addr ++ (62 ∷ [])) ++ rest ≡ after = append_assoc (written_addr addr) (62 ∷ []) rest in
     ap tokens (append_assoc (written_phrase phrase) (60 ∷ (written_addr addr ++ (62 ∷ []))) rest)
     ∙ ap (λ (bs : List ℕ). tokens (written_phrase phrase ++ (60 ∷ bs))) at_end
-    ∙ phrase_tokens phrase (60 ∷ behind) parts.0
+    ∙ phrase_tokens phrase (60 ∷ after) parts.0
     ∙ ap (λ (ts : List Token). map word_token phrase ++ (Open ∷ ts)) (addr_tokens addr (62 ∷ rest) parts.1 refl)
     ∙ sym (append_assoc (map word_token phrase) (Open ∷ Atom (written_addr addr) ∷ Close ∷ []) (tokens rest))

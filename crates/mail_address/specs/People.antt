@@ -1,10 +1,10 @@
 -- The people in the body of a field: a grammar over the list of its tokens (RFC 5322, sections 3.4 and 4.4).
-use Rattle.std.specs.Prelude.{ℕ, zero, suc, ◌+◌, ◌-◌, Bool, true, false, ◌&&◌, ◌||◌, ◌==◌, if◌then◌else◌, List, [], ◌∷◌, length, map, flat_map, filter_map, Option, Some, None, option_map, slice_index}
-use Rattle.std.specs.List.{after_last, before_first, slice_split, cons_option, join_with_byte}
+use Rattle.std.specs.Prelude.{ℕ, ◌-◌, Bool, true, false, ◌&&◌, ◌||◌, ◌==◌, if◌then◌else◌, List, [], ◌∷◌, ◌++◌, length, map, flat_map, filter_map, Option, Some, None, option_map, slice_index}
+use Rattle.std.specs.List.{after_last, slice_split, join_with_byte}
 use Rattle.kit.specs.Addresses.{is_addr}
 use Rattle.kit.specs.Letters.{lowered}
 use Rattle.kit.specs.Reading.{read_as}
-use Rattle.encoded_words.specs.Pieces.{decode_words}
+use Rattle.encoded_words.specs.Runs.{decode_words}
 use Rattle.mail_address.specs.declared.person.Person.{Person}
 use Rattle.mail_address.specs.Tokens.{Token, Atom, Quoted, Open, Close, Colon, End, tokens}
 
@@ -21,25 +21,18 @@ abbrev pub is_colon : Token → Bool
 is_colon Colon = true
 is_colon _ = false
 
--- What a token begins outside angles. An angle has the tokens up to the next `>`, or all; a `>` that closes none is dropped.
-abbrev pub item_at : Token → List Token → Option Item
-item_at Open ts = Some (Angle (before_first is_close ts))
-item_at Close ts = None
-item_at t ts = Some (Plain t)
-
--- how many tokens an item takes behind its first one
-abbrev pub taken_by : Option Item → ℕ
-taken_by (Some (Angle ts)) = length ts + 1
-taken_by _ = 0
-
--- The items from the left. The number says how many tokens the angle before takes still.
-abbrev pub items_behind : ℕ → List Token → List Item
-items_behind taken [] = []
-items_behind (suc k) (t ∷ ts) = items_behind k ts
-items_behind zero (t ∷ ts) = let i = item_at t ts in cons_option i (items_behind (taken_by i) ts)
+-- The items from the left. The first argument is what an angle that is open has so far: it has the tokens up to the
+-- next `>`, or all. A `>` that closes none is dropped.
+abbrev pub items_from : Option (List Token) → List Token → List Item
+items_from None [] = []
+items_from (Some inside) [] = Angle inside ∷ []
+items_from None (Open ∷ ts) = items_from (Some []) ts
+items_from None (Close ∷ ts) = items_from None ts
+items_from None (t ∷ ts) = Plain t ∷ items_from None ts
+items_from (Some inside) (t ∷ ts) = if is_close t then Angle inside ∷ items_from None ts else items_from (Some (inside ++ t ∷ [])) ts
 
 abbrev pub items : List Token → List Item
-items ts = items_behind 0 ts
+items ts = items_from None ts
 
 abbrev pub ends : Item → Bool
 ends (Plain End) = true
@@ -49,7 +42,7 @@ abbrev pub drops : Item → Bool
 drops (Plain Colon) = true
 drops _ = false
 
--- The elements of a list: what stands between ends. A colon drops what its element had so far, as the name of a group.
+-- The elements of a list: what is between ends. A colon drops what its element had so far, as the name of a group.
 abbrev pub elements : List Item → List (List Item)
 elements is = map (after_last drops) (slice_split ends is)
 
@@ -68,11 +61,11 @@ abbrev pub is_atom : Token → Bool
 is_atom (Atom bytes) = true
 is_atom _ = false
 
--- the bytes of a word
-abbrev pub said : Token → List ℕ
-said (Atom bytes) = bytes
-said (Quoted bytes) = bytes
-said _ = []
+-- the text of a word
+abbrev pub token_text : Token → List ℕ
+token_text (Atom bytes) = bytes
+token_text (Quoted bytes) = bytes
+token_text _ = []
 
 -- whether a word begins, and whether it ends, with `.` (46) or `@` (64)
 abbrev pub is_joint : ℕ → Bool
@@ -85,26 +78,26 @@ begins_joint (b ∷ bs) = is_joint b
 abbrev pub ends_joint : List ℕ → Bool
 ends_joint bytes = is_joint (slice_index bytes (length bytes - 1))
 
--- Whether tokens stand for one address: they are atoms, and of two neighbours the first ends or the second begins with `.`
--- or `@`. The flag says whether what stands before them is followed by any atom.
+-- Whether tokens are one address: they are atoms, and of two neighbours the first ends or the second begins with `.` or
+-- `@`. The flag says whether any atom may follow what precedes them.
 abbrev pub are_joined : Bool → List Token → Bool
 are_joined free [] = true
-are_joined free (t ∷ ts) = is_atom t && (free || begins_joint (said t)) && are_joined (ends_joint (said t)) ts
+are_joined free (t ∷ ts) = is_atom t && (free || begins_joint (token_text t)) && are_joined (ends_joint (token_text t)) ts
 
 -- the address that tokens are, in small letters, if they are one
 abbrev pub address : List Token → Option (List ℕ)
-address ts = if are_joined true ts then read_as is_addr (lowered (flat_map said ts)) else None
+address ts = if are_joined true ts then read_as is_addr (lowered (flat_map token_text ts)) else None
 
 -- the name that words are, which may be encoded words
 abbrev pub name : List Token → List ℕ
-name ts = decode_words (join_with_byte 32 (map said ts))
+name ts = decode_words (join_with_byte 32 (map token_text ts))
 
 -- a person by the tokens of its address and of its name
 abbrev pub person_by : List Token → List Token → Option Person
 person_by address_tokens name_tokens =
     option_map (λ a. record { addr = a; name = name name_tokens }) (address address_tokens)
 
--- Of an element with an angle, the address stands in its first one, behind a route that ends in a colon, and the name stands
+-- Of an element with an angle, the address is in its first one, after a route that ends in a colon, and the name is
 -- before it. An element without one is an address alone.
 abbrev pub person_of : List Token → Option (List Token) → Option Person
 person_of before None = person_by before []

@@ -19,4 +19,4 @@ abbrev pub atoms : Joined → Atoms
 atoms a = record { bytes = a.bytes.items; whole = a.whole; free = a.free }
 
 abbrev pub state : Element → State
-state e = record { place = e.place; address = atoms e.address; name = e.name.items }
+state e = record { position = e.position; address = atoms e.address; name = e.name.items }

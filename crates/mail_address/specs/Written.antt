@@ -3,7 +3,7 @@ use Rattle.std.specs.Prelude.{ℕ, Bool, true, not, ◌&&◌, ◌||◌, ◌==◌
 use Rattle.std.specs.Char.{is_ascii_graphic}
 use Rattle.std.specs.List.{list_all, list_any, join_by, join_with_byte}
 use Rattle.kit.specs.Letters.{lowered}
-use Rattle.encoded_words.specs.Pieces.{decode_words}
+use Rattle.encoded_words.specs.Runs.{decode_words}
 use Rattle.mail_address.specs.declared.person.Person.{Person}
 
 -- A byte of an atom: a visible one that is none of the specials (section 3.2.3).
@@ -19,7 +19,7 @@ pub data Word : Type 0 where
   Bare : (text : List ℕ) → Word
   InQuotes : (text : List ℕ) → Word
 
--- the dots of an abbreviated name may stand in a phrase (section 4.1); any bytes may be quoted
+-- a phrase may have the dots of abbreviated names (section 4.1); any bytes may be quoted
 abbrev pub is_word : Word → Bool
 is_word (Bare text) = is_dotted text
 is_word (InQuotes text) = true
@@ -28,14 +28,14 @@ abbrev pub word_text : Word → List ℕ
 word_text (Bare text) = text
 word_text (InQuotes text) = text
 
--- a `"` (34) and a backslash (92) stand behind a backslash (section 3.2.4)
-abbrev pub escaped : List ℕ → List ℕ
-escaped [] = []
-escaped (b ∷ bs) = let more = escaped bs in if b == 34 || b == 92 then 92 ∷ b ∷ more else b ∷ more
+-- text in quotes, where a `"` (34) and a backslash (92) follow a backslash (section 3.2.4)
+abbrev pub with_backslashes : List ℕ → List ℕ
+with_backslashes [] = []
+with_backslashes (b ∷ bs) = let more = with_backslashes bs in if b == 34 || b == 92 then 92 ∷ b ∷ more else b ∷ more
 
 abbrev pub written_word : Word → List ℕ
 written_word (Bare text) = text
-written_word (InQuotes text) = 34 ∷ (escaped text ++ (34 ∷ []))
+written_word (InQuotes text) = 34 ∷ (with_backslashes text ++ (34 ∷ []))
 
 -- a local part and a domain (section 3.4.1), each of atoms and dots
 pub record AddrSpec : Type 0 where
@@ -49,7 +49,7 @@ written_addr a = a.local ++ (64 ∷ a.domain)
 abbrev pub is_addr_spec : AddrSpec → Bool
 is_addr_spec a = is_dotted a.local && is_dotted a.domain && nat_le (length (written_addr a)) 254
 
--- an address alone, or behind a phrase, which may be empty, and in angles
+-- an address alone, or after a phrase, which may be empty, and in angles
 pub data Mailbox : Type 0 where
   Alone : (addr : AddrSpec) → Mailbox
   Named : (phrase : List Word) (addr : AddrSpec) → Mailbox
@@ -84,7 +84,7 @@ abbrev pub is_address : Address → Bool
 is_address (Single mailbox) = is_mailbox mailbox
 is_address (Group name members) = list_all is_word name && list_all is_mailbox members
 
--- a colon (58) stands behind the name of a group, and a semicolon (59) behind its members
+-- a colon (58) follows the name of a group, and a semicolon (59) its members
 abbrev pub written_address : Address → List ℕ
 written_address (Single mailbox) = written_box mailbox
 written_address (Group name members) = written_phrase name ++ (58 ∷ (written_boxes members ++ (59 ∷ [])))

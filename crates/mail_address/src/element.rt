@@ -1,18 +1,18 @@
 //! What is kept of an element while its tokens are read.
 ghost use Rattle.std.specs.Prelude.{◌≡◌, ◌++◌, [], false, IfOk, OnOk, MatchOption, option_map};
-ghost use Rattle.encoded_words.specs.Pieces.{decode_words};
-ghost use Rattle.mail_address.specs.People.{begins_joint, ends_joint, is_joint, said};
-ghost use Rattle.mail_address.specs.States.{address_with, behind_word, ended, name_at, next, next_before, next_behind, next_inside, next_later, nothing, person_at, put, start};
+ghost use Rattle.encoded_words.specs.Runs.{decode_words};
+ghost use Rattle.mail_address.specs.People.{begins_joint, ends_joint, is_joint, token_text};
+ghost use Rattle.mail_address.specs.States.{address_with, after_word, ended, name_at, next, next_before, next_after, next_inside, next_later, nothing, person_at, put, start};
 ghost use Rattle.mail_address.specs.Tokens.{unquoted};
 ghost use Rattle.mail_address.specs.Views.{atoms, seen, state};
 
 use crate::person::Person;
 use crate::token::{Token, without_first};
 use encoded_words::decode_words;
-use kit::{Addr, Memory, begins_pair};
+use kit::{Addr, Memory, begins_quoted_pair};
 use std::alloc::Global;
 
-/// Whether a word that begins or ends with this byte may stand beside another in an address.
+/// Whether a word that begins or ends with this byte may be beside another in an address.
 fn is_joint(byte: u8) -> bool
     ensures { result ≡ is_joint byte }
 {
@@ -37,23 +37,23 @@ fn ends_joint(bytes: &[u8]) -> bool
     }
 }
 
-/// Appends what the inside of a quoted string says.
+/// Appends the text of the inside of a quoted string.
 fn push_unquoted(out: &mut Vec<u8>, inside: &[u8]) -> Result<(), Memory>
     ensures { OnOk result (out.new.items ≡ out.old.items ++ unquoted false inside.now) }
 {
-    let mut pair = false;
+    let mut escaped = false;
     for byte in inside {
-        pair = begins_pair(pair, *byte);
-        if !pair {
+        escaped = begins_quoted_pair(escaped, *byte);
+        if !escaped {
             out.push(*byte)?;
         }
     }
     Ok(())
 }
 
-/// Appends what a word says.
+/// Appends the text of a word.
 fn push_word(out: &mut Vec<u8>, word: &Token) -> Result<(), Memory>
-    ensures { OnOk result (out.new.items ≡ out.old.items ++ said (seen word.now)) }
+    ensures { OnOk result (out.new.items ≡ out.old.items ++ token_text (seen word.now)) }
 {
     match word {
         Token::Atom(bytes) => out.extend_from_slice(bytes)?,
@@ -116,26 +116,26 @@ impl Joined {
     }
 }
 
-/// Where in an element a token stands.
+/// Where in an element a token is.
 #[derive(Clone, Copy)]
-pub enum Place {
+pub enum Position {
     /// Before any angle.
-    Before,
+    BeforeAngle,
     /// In its first angle.
-    Inside,
-    /// Behind its first angle.
-    Behind,
-    /// In an angle behind the first one.
-    Later,
+    InAngle,
+    /// After its first angle.
+    AfterAngle,
+    /// In an angle after the first one.
+    InLaterAngle,
 }
 
 /// An element of a list, as far as it was read.
 #[derive(Drop)]
 pub struct Element {
-    place: Place,
-    /// The tokens of the address: those of the first angle behind its last colon, or all where there is no angle.
+    position: Position,
+    /// The tokens of the address: those of the first angle after its last colon, or all where there is no angle.
     address: Joined,
-    /// What the words before the first angle say, with a space before each.
+    /// The texts of the words before the first angle, with a space before each.
     name: Vec<u8>,
 }
 
@@ -145,7 +145,7 @@ impl Element {
         ensures { state result ≡ start }
     {
         Element {
-            place: Place::Before,
+            position: Position::BeforeAngle,
             address: Joined::new(alloc),
             name: Vec::new(alloc),
         }
@@ -154,16 +154,16 @@ impl Element {
     fn clear(&mut self)
         ensures { state self.new ≡ start }
     {
-        self.place = Place::Before;
+        self.position = Position::BeforeAngle;
         self.address.clear();
         self.name.clear();
     }
 
     fn name(&self) -> &[u8]
-        ensures { result.now ≡ name_at self.now.place self.now.name.items }
+        ensures { result.now ≡ name_at self.now.position self.now.name.items }
     {
-        match self.place {
-            Place::Before => &[],
+        match self.position {
+            Position::BeforeAngle => &[],
             _ => without_first(&self.name),
         }
     }
@@ -183,15 +183,15 @@ impl Element {
     pub fn ended(&self, alloc: Global, token: &Token) -> Result<Option<Person>, Memory>
         ensures { IfOk result (λ person. person ≡ ended (state self.now) (seen token.now)) }
     {
-        match (self.place, token) {
-            (Place::Before | Place::Behind, Token::End) => self.person(alloc),
+        match (self.position, token) {
+            (Position::BeforeAngle | Position::AfterAngle, Token::End) => self.person(alloc),
             _ => Ok(None),
         }
     }
 
     fn take_word(&mut self, word: &Token) -> Result<(), Memory>
-        requires { self.old.place ≡ Place.Before }
-        ensures { OnOk result (state self.new ≡ behind_word (state self.old) (seen word.now)) }
+        requires { self.old.position ≡ Position.BeforeAngle }
+        ensures { OnOk result (state self.new ≡ after_word (state self.old) (seen word.now)) }
     {
         self.address.put(word)?;
         self.name.push(b' ')?;
@@ -199,14 +199,14 @@ impl Element {
     }
 
     fn take_before(&mut self, token: &Token) -> Result<(), Memory>
-        requires { self.old.place ≡ Place.Before }
+        requires { self.old.position ≡ Position.BeforeAngle }
         ensures { OnOk result (state self.new ≡ next_before (state self.old) (seen token.now)) }
     {
         match token {
             Token::Atom(_) | Token::Quoted(_) => self.take_word(token)?,
             Token::Colon | Token::End => self.clear(),
             Token::Open => {
-                self.place = Place::Inside;
+                self.position = Position::InAngle;
                 self.address.clear();
             }
             Token::Close => (),
@@ -215,46 +215,46 @@ impl Element {
     }
 
     fn take_inside(&mut self, token: &Token) -> Result<(), Memory>
-        requires { self.old.place ≡ Place.Inside }
+        requires { self.old.position ≡ Position.InAngle }
         ensures { OnOk result (state self.new ≡ next_inside (state self.old) (seen token.now)) }
     {
         match token {
-            Token::Close => self.place = Place::Behind,
+            Token::Close => self.position = Position::AfterAngle,
             Token::Colon => self.address.clear(),
             _ => self.address.put(token)?,
         }
         Ok(())
     }
 
-    fn take_behind(&mut self, token: &Token)
-        requires { self.old.place ≡ Place.Behind }
-        ensures { state self.new ≡ next_behind (state self.old) (seen token.now) }
+    fn take_after(&mut self, token: &Token)
+        requires { self.old.position ≡ Position.AfterAngle }
+        ensures { state self.new ≡ next_after (state self.old) (seen token.now) }
     {
         match token {
             Token::End | Token::Colon => self.clear(),
-            Token::Open => self.place = Place::Later,
+            Token::Open => self.position = Position::InLaterAngle,
             _ => (),
         }
     }
 
     fn take_later(&mut self, token: &Token)
-        requires { self.old.place ≡ Place.Later }
+        requires { self.old.position ≡ Position.InLaterAngle }
         ensures { state self.new ≡ next_later (state self.old) (seen token.now) }
     {
         if let Token::Close = token {
-            self.place = Place::Behind;
+            self.position = Position::AfterAngle;
         }
     }
 
-    /// Takes the next token, behind which the next element may begin.
+    /// Takes the next token, after which the next element may begin.
     pub fn take(&mut self, token: &Token) -> Result<(), Memory>
         ensures { OnOk result (state self.new ≡ next (state self.old) (seen token.now)) }
     {
-        match self.place {
-            Place::Before => self.take_before(token)?,
-            Place::Inside => self.take_inside(token)?,
-            Place::Behind => self.take_behind(token),
-            Place::Later => self.take_later(token),
+        match self.position {
+            Position::BeforeAngle => self.take_before(token)?,
+            Position::InAngle => self.take_inside(token)?,
+            Position::AfterAngle => self.take_after(token),
+            Position::InLaterAngle => self.take_later(token),
         }
         Ok(())
     }

@@ -19,17 +19,17 @@ fn push_person(found: &mut Vec<Person>, person: Option<Person>) -> Result<(), Me
     Ok(())
 }
 
-/// The people that the body of a field names, as From, To or Cc, in their order (RFC 5322, sections 3.4 and 4.4). Takes
-/// memory, and is `Err` only where there is none.
+/// The people that the body of a field names, as From, To or Cc, in their order (RFC 5322, sections 3.4 and 4.4). Any
+/// bytes are a body. Takes memory; `Err` only when it runs out.
 ///
-/// A body is a list of elements that end at `,` and `;`, in groups and outside of them. A `:` drops what its element had so
-/// far: the name of a group. An element with an angle names a person by the address in its first angle, where a `:` ends a
-/// route, and by the words before it, joined by one space and read as encoded words. An element without one is an address
-/// alone, and the name is empty. In an address, white space and comments stand only beside a `.` or an `@`, and there is no
-/// quoted string. An element without an address is nobody, and a person that stands twice is given twice.
+/// A body is a list of elements that end at `,` and `;`, in groups and outside of them. A `:` drops what its element had
+/// so far: the name of a group. An element with an angle names a person by the address in its first angle, where a `:`
+/// ends a route, and by the words before it, joined by one space and read as encoded words. An element without one is an
+/// address alone, and the name is empty. An address has white space and comments only beside a `.` or an `@`, and no
+/// quoted string. An element without an address is nobody, and a person that is named twice is given twice.
 ///
-/// Of a list of mailboxes and groups as it is written, with `, ` between each two, the people are exactly the mailboxes and the
-/// members of the groups.
+/// Of a list of mailboxes and groups as it is written, with `, ` between each two, the people are exactly the mailboxes
+/// and the members of the groups.
 pub fn people(alloc: Global, body: &[u8]) -> Result<Vec<Person>, Memory>
     ensures value { IfOk result (λ found. found.items ≡ people body.now) }
     ensures written { (addresses : List Address) → IsTrue (list_all is_address addresses) → body.now ≡ written addresses
@@ -37,11 +37,11 @@ pub fn people(alloc: Global, body: &[u8]) -> Result<Vec<Person>, Memory>
 {
     let mut found = Vec::new(alloc);
     let mut element = Element::new(alloc);
-    let mut rest = body;
-    while let Some((token, behind)) = next_token(rest) {
+    let mut left = body;
+    while let Some((token, rest)) = next_token(left) {
         push_person(&mut found, element.ended(alloc, &token)?)?;
         element.take(&token)?;
-        rest = behind;
+        left = rest;
     }
     push_person(&mut found, element.person(alloc)?)?;
     Ok(found)

@@ -1,17 +1,18 @@
 //! The tokens of a body.
 ghost use Rattle.std.specs.Prelude.{◌≡◌, ◌==◌, ◌<◌, ◌≤◌, ◌^◌, false, [], ◌∷◌, IfSome, IsFalse, IsTrue, MatchOption, length, position, option_map, slice_index};
 ghost use Rattle.std.specs.List.{cons_option};
-ghost use Rattle.mail_address.specs.Tokens.{comment_len, ends_atom, mark, quoted_len, tokens, without_first};
+ghost use Rattle.mail_address.specs.States.{without_first};
+ghost use Rattle.mail_address.specs.Tokens.{comment_len, ends_atom, mark, quoted_len, tokens};
 ghost use Rattle.mail_address.specs.Views.{seen};
 
-use kit::{begins_pair, depth_behind, is_white};
+use kit::{begins_quoted_pair, depth_after, is_white};
 
 /// A token, borrowed from the body (RFC 5322, section 3.2).
 #[derive(Clone, Copy)]
 pub enum Token<'a> {
     /// An atom, or a domain literal with its brackets.
     Atom(&'a [u8]),
-    /// What stands between the quotes of a quoted string, with its backslashes.
+    /// What is between the quotes of a quoted string, with its backslashes.
     Quoted(&'a [u8]),
     /// `<`
     Open,
@@ -23,34 +24,34 @@ pub enum Token<'a> {
     End,
 }
 
-/// How many bytes a comment takes behind its `(`.
+/// How many bytes a comment takes after its `(`.
 fn comment_len(bytes: &[u8]) -> usize
     ensures value { result ≡ comment_len 1 false bytes.now }
     ensures bound { result ≤ length bytes.now }
 {
     let mut depth = 1;
-    let mut pair = false;
+    let mut escaped = false;
     for (at, byte) in bytes.iter().enumerate() {
-        depth = depth_behind(depth, pair, *byte);
+        depth = depth_after(depth, escaped, *byte);
         if depth == 0 {
             return at + 1;
         }
-        pair = begins_pair(pair, *byte);
+        escaped = begins_quoted_pair(escaped, *byte);
     }
     bytes.len()
 }
 
-/// How many bytes stand before the `"` that closes a quoted string.
+/// How many bytes precede the `"` that closes a quoted string.
 fn quoted_len(bytes: &[u8]) -> usize
     ensures value { result ≡ quoted_len false bytes.now }
     ensures bound { result ≤ length bytes.now }
 {
-    let mut pair = false;
+    let mut escaped = false;
     for (at, byte) in bytes.iter().enumerate() {
-        if !pair && *byte == b'"' {
+        if !escaped && *byte == b'"' {
             return at;
         }
-        pair = begins_pair(pair, *byte);
+        escaped = begins_quoted_pair(escaped, *byte);
     }
     bytes.len()
 }
@@ -66,35 +67,35 @@ pub fn without_first(bytes: &[u8]) -> &[u8]
     }
 }
 
-/// What stands at the front of bytes: a token, or white space or a comment, which are none.
+/// What bytes begin with: a token, or white space or a comment, which are none.
 #[derive(Clone, Copy)]
 struct Lexeme<'a> {
     token: Option<Token<'a>>,
     rest: &'a [u8],
 }
 
-fn comment(behind: &[u8]) -> Lexeme<'_>
-    ensures tokens { tokens (40 ∷ behind.now) ≡ cons_option (option_map seen result.token) (tokens result.rest.now) }
-    ensures bound { length result.rest.now ≤ length behind.now }
+fn comment(after: &[u8]) -> Lexeme<'_>
+    ensures tokens { tokens (40 ∷ after.now) ≡ cons_option (option_map seen result.token) (tokens result.rest.now) }
+    ensures bound { length result.rest.now ≤ length after.now }
 {
     Lexeme {
         token: None,
-        rest: &behind[comment_len(behind)..],
+        rest: &after[comment_len(after)..],
     }
 }
 
-fn quoted(behind: &[u8]) -> Lexeme<'_>
-    ensures tokens { tokens (34 ∷ behind.now) ≡ cons_option (option_map seen result.token) (tokens result.rest.now) }
-    ensures bound { length result.rest.now ≤ length behind.now }
+fn quoted(after: &[u8]) -> Lexeme<'_>
+    ensures tokens { tokens (34 ∷ after.now) ≡ cons_option (option_map seen result.token) (tokens result.rest.now) }
+    ensures bound { length result.rest.now ≤ length after.now }
 {
-    let (inside, rest) = behind.split_at(quoted_len(behind));
+    let (inside, rest) = after.split_at(quoted_len(after));
     Lexeme {
         token: Some(Token::Quoted(inside)),
         rest: without_first(rest),
     }
 }
 
-fn place_of_bracket(bytes: &[u8]) -> Option<usize>
+fn bracket_offset(bytes: &[u8]) -> Option<usize>
     ensures value { result ≡ position (λ b. b == 93) bytes.now }
     ensures bound { IfSome result (λ at. at < length bytes.now) }
 {
@@ -106,7 +107,7 @@ fn literal(bytes: &[u8]) -> Lexeme<'_>
     ensures tokens { tokens bytes.now ≡ cons_option (option_map seen result.token) (tokens result.rest.now) }
     ensures bound { length result.rest.now < length bytes.now }
 {
-    let end = match place_of_bracket(bytes) {
+    let end = match bracket_offset(bytes) {
         Some(at) => at + 1,
         None => bytes.len(),
     };
@@ -162,19 +163,19 @@ fn first_lexeme(bytes: &[u8]) -> Option<Lexeme<'_>>
 {
     let lexeme = match bytes {
         [] => return None,
-        [b'(', behind @ ..] => comment(behind),
-        [b'"', behind @ ..] => quoted(behind),
+        [b'(', after @ ..] => comment(after),
+        [b'"', after @ ..] => quoted(after),
         [b'[', ..] => literal(bytes),
-        [first, behind @ ..] if ends_atom(*first) => Lexeme {
+        [first, after @ ..] if ends_atom(*first) => Lexeme {
             token: mark(*first),
-            rest: behind,
+            rest: after,
         },
         _ => atom(bytes),
     };
     Some(lexeme)
 }
 
-/// The first token of bytes, and what stands behind it.
+/// The first token of bytes, and what follows it: `None` exactly where no token does.
 pub fn next_token(bytes: &[u8]) -> Option<(Token<'_>, &[u8])>
     ensures { MatchOption result (tokens bytes.now ≡ [])
         (λ p. (tokens bytes.now ≡ seen p.0 ∷ tokens p.1.now) × (length p.1.now < length bytes.now)) }

@@ -1,4 +1,3 @@
 -- Lemmas of this crate, and rows that compute.
-pub mod DigitLemmas
 mod Rows
 pub mod WordLemmas

@@ -35,17 +35,17 @@ no_zone : moment (codes "1 May 2024 10:00") ≡ Some 1714557600
 unfolding moment days_from_civil day_count days_of_years days_of_months
 no_zone = refl
 
-comma_behind_the_day : moment (codes "1, May 2024 10:00 UT") ≡ Some 1714557600
+comma_after_the_day : moment (codes "1, May 2024 10:00 UT") ≡ Some 1714557600
 unfolding moment days_from_civil day_count days_of_years days_of_months
-comma_behind_the_day = refl
+comma_after_the_day = refl
 
 letters_of_either_case : moment (codes "wed 1 mAY 2024 6:0 edt") ≡ Some 1714557600
 unfolding moment days_from_civil day_count days_of_years days_of_months
 letters_of_either_case = refl
 
-words_behind : moment (codes "1 May 2024 10:00 +0000 (CEST) and more") ≡ Some 1714557600
+words_after : moment (codes "1 May 2024 10:00 +0000 (CEST) and more") ≡ Some 1714557600
 unfolding moment days_from_civil day_count days_of_years days_of_months
-words_behind = refl
+words_after = refl
 
 zone_that_breaks_its_form : moment (codes "1 May 2024 10:00 +0260") ≡ Some 1714557600
 unfolding moment days_from_civil day_count days_of_years days_of_months
@@ -195,9 +195,9 @@ last_moment_of_all : moment (codes "31 Dec 9999 23:59:59") ≡ Some last_moment
 unfolding moment days_from_civil day_count days_of_years days_of_months
 last_moment_of_all = refl
 
-behind_the_last_by_its_zone : moment (codes "31 Dec 9999 23:59:59 -0001") ≡ None
+after_the_last_by_its_zone : moment (codes "31 Dec 9999 23:59:59 -0001") ≡ None
 unfolding moment days_from_civil day_count days_of_years days_of_months
-behind_the_last_by_its_zone = refl
+after_the_last_by_its_zone = refl
 
 year_0 : moment (codes "31 Dec 0000 23:59:59") ≡ None
 unfolding moment days_from_civil day_count days_of_years days_of_months

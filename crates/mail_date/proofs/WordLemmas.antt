@@ -5,25 +5,25 @@ use Rattle.std.proofs.lemmas.List.Splits.{slice_split-cons_yes, slice_split-cons
 use Rattle.std.proofs.lemmas.Bool.{cases_Bool, ltb-false}
 use Rattle.std.proofs.lemmas.List.Sums.{prefix_len-le-length}
 use Rattle.std.specs.Option.{unwrap_or}
-use Rattle.kit.specs.Comments.{depth_behind}
-use Rattle.mail_date.specs.Words.{without_comments, pair_behind, ends_word, is_separator, words}
+use Rattle.kit.specs.Comments.{depth_after}
+use Rattle.mail_date.specs.Words.{without_comments, escaped_after, ends_word, is_separator, words}
 
-abbrev is_piece : List ℕ → Bool
-is_piece piece = nat_lt 0 (length piece)
+abbrev is_nonempty : List ℕ → Bool
+is_nonempty part = nat_lt 0 (length part)
 
--- what stands in the place of a byte that no comment holds
-abbrev shown : ℕ → ℕ
-shown b = cond (not (eqb b 40)) b 32
+-- what replaces a byte that is in no comment
+abbrev uncommented : ℕ → ℕ
+uncommented b = cond (not (eqb b 40)) b 32
 
--- the same of the bytes behind that byte
-abbrev shown_behind : ℕ → List ℕ → List ℕ
-shown_behind b bs = without_comments (depth_behind 0 false b) (pair_behind 0 false b) bs
+-- the same of the bytes after that byte
+abbrev uncommented_after : ℕ → List ℕ → List ℕ
+uncommented_after b bs = without_comments (depth_after 0 false b) (escaped_after 0 false b) bs
 
-shown_separates : (b : ℕ) → ends_word b ≡ true → is_separator (shown b) ≡ true
-shown_separates b ends = grind arith
+uncommented_separates : (b : ℕ) → ends_word b ≡ true → is_separator (uncommented b) ≡ true
+uncommented_separates b ends = grind arith
 
-split_at_gap : (b : ℕ) (bs : List ℕ) → ends_word b ≡ true → slice_split is_separator (without_comments 0 false (b ∷ bs)) ≡ [] ∷ slice_split is_separator (shown_behind b bs)
-split_at_gap b bs ends = slice_split-cons_yes is_separator (shown b) (shown_behind b bs) (shown_separates b ends)
+split_at_gap : (b : ℕ) (bs : List ℕ) → ends_word b ≡ true → slice_split is_separator (without_comments 0 false (b ∷ bs)) ≡ [] ∷ slice_split is_separator (uncommented_after b bs)
+split_at_gap b bs ends = slice_split-cons_yes is_separator (uncommented b) (uncommented_after b bs) (uncommented_separates b ends)
 
 in_word : (b : ℕ) → ends_word b ≡ false → (eqb b 40 ≡ false) × (is_separator b ≡ false)
 in_word b h = (grind arith, grind arith)
@@ -39,7 +39,7 @@ without_comments-word b bs h = rw ((in_word b h).0, either (eqb b 41) 0) refl
 record StartsWith (bytes word rest : List ℕ) : Type 0 where
   pub parts : List (List ℕ)
   pub split : slice_split is_separator (without_comments 0 false bytes) ≡ word ∷ parts
-  pub behind : filter is_piece parts ≡ words rest
+  pub others : filter is_nonempty parts ≡ words rest
 
 abbrev word_len : List ℕ → ℕ
 word_len bytes = position_or_len ends_word bytes
@@ -51,33 +51,33 @@ one_more : (b : ℕ) (bs word rest : List ℕ) → ends_word b ≡ false → Sta
 one_more b bs word rest in_it more = record {
   parts = more.parts;
   split = ap (slice_split is_separator) (without_comments-word b bs in_it) ∙ slice_split-cons_no is_separator b (without_comments 0 false bs) (in_word b in_it).1 ∙ ap (onto_first b) more.split;
-  behind = more.behind;
+  others = more.others;
 }
 
 starts_with_word : (bytes : List ℕ) → StartsWith bytes (take (word_len bytes) bytes) (drop (word_len bytes) bytes)
-starts_with_word [] = record { parts = []; split = refl; behind = refl }
+starts_with_word [] = record { parts = []; split = refl; others = refl }
 starts_with_word (b ∷ bs) =
     elim (cases_Bool (ends_word b)) [
       | inl ends ↦ rw ends (record {
-        parts = slice_split is_separator (shown_behind b bs);
+        parts = slice_split is_separator (uncommented_after b bs);
         split = split_at_gap b bs ends;
-        behind = sym (ap (filter is_piece) (split_at_gap b bs ends));
+        others = sym (ap (filter is_nonempty) (split_at_gap b bs ends));
       })
       | inr in_it ↦
           let P : ℕ → Type 0 = λ n. StartsWith (b ∷ bs) (take n (b ∷ bs)) (drop n (b ∷ bs)) in
           subst P (sym (word_len-cons b bs in_it)) (one_more b bs _ _ in_it (starts_with_word bs))
     ]
 
-is_piece-cons : (b : ℕ) (bs : List ℕ) → is_piece (b ∷ bs) ≡ true
-is_piece-cons b bs = grind arith
+is_nonempty-cons : (b : ℕ) (bs : List ℕ) → is_nonempty (b ∷ bs) ≡ true
+is_nonempty-cons b bs = grind arith
 
--- the word that stands in front
-pub words-in_front : (bytes : List ℕ) → 0 < length bytes → ends_word (get_or bytes 0 0) ≡ false → words bytes ≡ take (word_len bytes) bytes ∷ words (drop (word_len bytes) bytes)
-words-in_front [] some in_it = absurd (omega arith)
-words-in_front (b ∷ bs) some in_it =
+-- the word that comes first
+pub words-first : (bytes : List ℕ) → 0 < length bytes → ends_word (get_or bytes 0 0) ≡ false → words bytes ≡ take (word_len bytes) bytes ∷ words (drop (word_len bytes) bytes)
+words-first [] some in_it = absurd (omega arith)
+words-first (b ∷ bs) some in_it =
     let P : ℕ → Type 0 = λ n. words (b ∷ bs) ≡ take n (b ∷ bs) ∷ words (drop n (b ∷ bs)) in
-    let front = one_more b bs _ _ in_it (starts_with_word bs) in
-    subst P (sym (word_len-cons b bs in_it)) (ap (filter is_piece) front.split ∙ rw (is_piece-cons b (take (word_len bs) bs)) (ap (λ (ws : List (List ℕ)). (b ∷ take (word_len bs) bs) ∷ ws) front.behind))
+    let first = one_more b bs _ _ in_it (starts_with_word bs) in
+    subst P (sym (word_len-cons b bs in_it)) (ap (filter is_nonempty) first.split ∙ rw (is_nonempty-cons b (take (word_len bs) bs)) (ap (λ (ws : List (List ℕ)). (b ∷ take (word_len bs) bs) ∷ ws) first.others))
 
 -- where the word ends, or the bytes
 pub word_end_or_length : (bytes : List ℕ) → unwrap_or (position ends_word bytes) (length bytes) ≡ word_len bytes

@@ -2,8 +2,8 @@
 use Rattle.std.specs.Prelude.{ℕ, ◌+◌, ◌&&◌, ◌==◌, nat_lt, nat_le, if◌then◌else◌, List, length, Option, Some, None, option_map, ℤ, pos, negsuc}
 use Rattle.std.specs.Option.{option_or}
 use Rattle.jiff_core.specs.Calendar.{days_in_month, days_from_civil}
-use Rattle.mail_date.specs.Digits.{number}
-use Rattle.mail_date.specs.Names.{months, place_in}
+use Rattle.kit.specs.Numbers.{number}
+use Rattle.mail_date.specs.Names.{months, index_in}
 use Rattle.kit.specs.Options.{◌>>=◌}
 
 -- the day number of 9999-12-31
@@ -34,6 +34,6 @@ year_of word = option_or (number 4 4 word) (short_year word)
 abbrev pub day_of : List ℕ → List ℕ → List ℕ → Option ℤ
 day_of day month year = do
   d ← number 1 2 day
-  m ← place_in months month
+  m ← index_in months month
   y ← year_of year
   day_number y (m + 1) d

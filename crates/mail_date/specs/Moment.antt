@@ -2,7 +2,7 @@
 use Rattle.std.specs.Prelude.{ℕ, ◌+ℤ◌, ◌-ℤ◌, ◌*ℤ◌, nat_le, if◌then◌else◌, List, [], ◌∷◌, Option, Some, None, is_some, ℤ, pos}
 use Rattle.mail_date.specs.Clock.{second_of_day}
 use Rattle.mail_date.specs.Days.{day_of, natural}
-use Rattle.mail_date.specs.Names.{place_in, weekdays}
+use Rattle.mail_date.specs.Names.{index_in, weekdays}
 use Rattle.kit.specs.Moments.{last_moment}
 use Rattle.kit.specs.Options.{◌>>=◌}
 use Rattle.mail_date.specs.Words.{words}
@@ -12,10 +12,10 @@ use Rattle.mail_date.specs.Zones.{zone_offset}
 abbrev pub as_moment : ℤ → Option ℕ
 as_moment seconds = natural seconds >>= λ n. if nat_le n last_moment then Some n else None
 
--- a weekday in front is passed over
+-- a leading weekday is skipped
 abbrev pub without_weekday : List (List ℕ) → List (List ℕ)
 without_weekday [] = []
-without_weekday (word ∷ more) = if is_some (place_in weekdays word) then more else word ∷ more
+without_weekday (word ∷ more) = if is_some (index_in weekdays word) then more else word ∷ more
 
 -- by how many seconds the zone that the next word names is ahead of UTC, and 0 where no word is left
 abbrev pub next_offset : List (List ℕ) → ℤ

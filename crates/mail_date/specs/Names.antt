@@ -10,6 +10,6 @@ months =
     codes "Jan" ∷ codes "Feb" ∷ codes "Mar" ∷ codes "Apr" ∷ codes "May" ∷ codes "Jun"
     ∷ codes "Jul" ∷ codes "Aug" ∷ codes "Sep" ∷ codes "Oct" ∷ codes "Nov" ∷ codes "Dec" ∷ []
 
--- the place of a name in a table, from 0, where the case of letters does not count
-abbrev pub place_in : List (List ℕ) → List ℕ → Option ℕ
-place_in table name = position (same_name name) table
+-- the index of a name in a table, where the case of letters does not count
+abbrev pub index_in : List (List ℕ) → List ℕ → Option ℕ
+index_in table name = position (same_name name) table

@@ -2,7 +2,7 @@
 use Rattle.std.specs.Prelude.{ℕ, ◌+◌, ◌*◌, ◌/◌, ◌%◌, nat_eq, nat_le, if◌then◌else◌, List, [], ◌∷◌, codes, drop, find, Option, Some, None, option_map, unwrap_or, ℤ, pos, neg_ℤ}
 use Rattle.std.specs.List.{starts_with}
 use Rattle.kit.specs.Letters.{same_name}
-use Rattle.mail_date.specs.Digits.{number}
+use Rattle.kit.specs.Numbers.{number}
 use Rattle.kit.specs.Options.{◌>>=◌}
 
 -- the zones of North America, and by how many hours each is behind UTC

@@ -6,10 +6,10 @@ ghost use Rattle.mail_date.specs.Moment.{as_moment, moment, next_offset};
 ghost use Rattle.mail_date.specs.Words.{words as words_of};
 
 use crate::clock::second_of_day;
-use crate::days::{SECONDS_PER_DAY, day_of, natural};
+use crate::days::{day_of, natural};
 use crate::words::Words;
 use crate::zones::zone_offset;
-use kit::LAST_MOMENT;
+use kit::{LAST_MOMENT, SECONDS_PER_DAY};
 
 fn as_moment(seconds: i64) -> Option<u64>
     ensures value { result ≡ as_moment seconds }

@@ -3,12 +3,9 @@ ghost use Rattle.std.specs.Prelude.{◌≡◌, ◌<◌, ◌≤◌, IfSome};
 ghost use Rattle.jiff_core.specs.Calendar.{IsEpochDay};
 ghost use Rattle.mail_date.specs.Days.{day_number, day_of, natural, short_year, year_of};
 
-use crate::digits::number;
-use crate::names::{MONTHS, place_in};
+use crate::names::{MONTHS, index_in};
 use jiff_core::civil::Date;
-
-/// The seconds of a day of UTC, in which leap seconds do not count.
-pub const SECONDS_PER_DAY: u64 = 86_400;
+use kit::number;
 
 /// The number of a day of a year up to 9999 and of a month from 1 to 12: 0 is 1970-01-01, and the days
 /// before it are negative. `None` where the month does not have that day. Takes no memory.
@@ -60,7 +57,7 @@ pub fn day_of(day: &[u8], month: &[u8], year: &[u8]) -> Option<i32>
     ensures bound { IfSome result IsEpochDay }
 {
     let day = number(1, 2, day)?;
-    let month = place_in(&MONTHS, month)?;
+    let month = index_in(&MONTHS, month)?;
     let year = year_of(year)?;
     day_number(year, month as u64 + 1, day)
 }

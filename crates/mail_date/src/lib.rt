@@ -1,5 +1,4 @@
-//! The moment that a Date field of a mail names (RFC 5322, sections 3.3 and 4.3), and the numbers that
-//! dates are made of.
+//! The moment that a Date field of a mail names (RFC 5322, sections 3.3 and 4.3).
 #![tactic(auto)]
 
 mod clock;
@@ -11,5 +10,3 @@ mod words;
 mod zones;
 
 pub use date::moment;
-pub use days::SECONDS_PER_DAY;
-pub use digits::number;

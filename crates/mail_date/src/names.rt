@@ -1,6 +1,6 @@
 //! The names of weekdays and months.
 ghost use Rattle.std.specs.Prelude.{◌≡◌, ◌<◌, IfSome, length};
-ghost use Rattle.mail_date.specs.Names.{place_in};
+ghost use Rattle.mail_date.specs.Names.{index_in};
 
 use kit::same_name;
 
@@ -15,11 +15,11 @@ pub const MONTHS: [[u8; 3]; 12] = [
     *b"Nov", *b"Dec",
 ];
 
-/// The place of a name in a table, from 0, where ASCII letters of either case are alike. `None` where
+/// The index of a name in a table, where ASCII letters of either case are alike. `None` where
 /// the table does not have the name. Takes no memory.
-pub fn place_in(table: &[[u8; 3]], name: &[u8]) -> Option<usize>
-    ensures value { result ≡ place_in table.now name.now }
-    ensures bound { IfSome result (λ place. place < length table.now) }
+pub fn index_in(table: &[[u8; 3]], name: &[u8]) -> Option<usize>
+    ensures value { result ≡ index_in table.now name.now }
+    ensures bound { IfSome result (λ index. index < length table.now) }
 {
     table.iter().position(|word| same_name(name, word))
 }

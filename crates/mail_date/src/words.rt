@@ -1,9 +1,9 @@
 //! The words of a body.
 ghost use Rattle.std.specs.Prelude.{◌≡◌, ◌<◌, ◌^◌, [], ◌∷◌, IfSome, IsFalse, MatchOption, length, position, slice_index};
-ghost use Rattle.mail_date.specs.Words.{ends_word, is_separator, pair_behind, words};
+ghost use Rattle.mail_date.specs.Words.{ends_word, is_separator, escaped_after, words};
 
-use crate::names::{WEEKDAYS, place_in};
-use kit::{begins_pair, depth_behind};
+use crate::names::{WEEKDAYS, index_in};
+use kit::{begins_quoted_pair, depth_after};
 
 fn is_separator(byte: u8) -> bool
     ensures { result ≡ is_separator byte }
@@ -17,11 +17,11 @@ fn ends_word(byte: u8) -> bool
     is_separator(byte) || byte == b'('
 }
 
-/// Whether the byte behind is the second of a pair, which stands in a comment alone.
-fn pair_behind(depth: usize, pair: bool, byte: u8) -> bool
-    ensures { result ≡ pair_behind depth pair byte }
+/// Whether the next byte is the second of a quoted-pair, which is in a comment alone.
+fn escaped_after(depth: usize, escaped: bool, byte: u8) -> bool
+    ensures { result ≡ escaped_after depth escaped byte }
 {
-    depth > 0 && begins_pair(pair, byte)
+    depth > 0 && begins_quoted_pair(escaped, byte)
 }
 
 /// The bytes from their first word on, if they have a word.
@@ -33,13 +33,13 @@ fn from_word(bytes: &[u8]) -> Option<&[u8]>
     ensures word { IfSome result (λ rest. IsFalse (ends_word (slice_index rest.now 0))) }
 {
     let mut depth = 0;
-    let mut pair = false;
+    let mut escaped = false;
     for (at, byte) in bytes.iter().enumerate() {
         if depth == 0 && !ends_word(*byte) {
             return Some(&bytes[at..]);
         }
-        let open = depth_behind(depth, pair, *byte);
-        pair = pair_behind(depth, pair, *byte);
+        let open = depth_after(depth, escaped, *byte);
+        escaped = escaped_after(depth, escaped, *byte);
         depth = open;
     }
     None
@@ -52,7 +52,7 @@ fn word_end(bytes: &[u8]) -> Option<usize>
     bytes.iter().position(|b| ends_word(*b))
 }
 
-/// The bytes of the word that they begin with, and those behind it.
+/// The bytes of the word that they begin with, and those after it.
 fn split_word(bytes: &[u8]) -> (&[u8], &[u8])
     requires some { 0 < length bytes.now }
     requires word { IsFalse (ends_word (slice_index bytes.now 0)) }
@@ -89,14 +89,14 @@ impl<'a> Words<'a> {
         Some(word)
     }
 
-    /// The next word, or the one behind it where that is a weekday.
+    /// The next word, or the one after it where that is a weekday.
     pub fn next_but_weekday(&mut self) -> Option<&'a [u8]>
         ensures { MatchOption result
             (without_weekday (words self.old.rest.now) ≡ [])
             (λ word. without_weekday (words self.old.rest.now) ≡ word.now ∷ words self.new.rest.now) }
     {
         let word = self.next()?;
-        if place_in(&WEEKDAYS, word).is_some() {
+        if index_in(&WEEKDAYS, word).is_some() {
             return self.next();
         }
         Some(word)

@@ -3,8 +3,7 @@ ghost use Rattle.std.specs.Prelude.{◌≡◌, ◌≤◌, IfSome};
 ghost use Rattle.jiff_core.specs.Calendar.{IsWithin};
 ghost use Rattle.mail_date.specs.Zones.{hours_and_minutes, offset, seconds_behind, zone_hours, zone_offset};
 
-use crate::digits::number;
-use kit::same_name;
+use kit::{number, same_name};
 
 /// The zones of North America, and by how many hours each is behind UTC (RFC 5322, section 4.3).
 const ZONES: [([u8; 3], u64); 8] = [

@@ -6,30 +6,30 @@ use Rattle.std.proofs.lemmas.Bool.{cases_Bool}
 use Rattle.std.proofs.lemmas.List.{append-nil}
 use Rattle.kit.specs.Cuts.{split_once}
 use Rattle.mail_headers.specs.Ids.{angles_from, angles}
-use Rattle.mail_headers.proofs.CutLemmas.{put_before, split_once-here, split_once-further}
+use Rattle.mail_headers.proofs.SplitLemmas.{put_before, split_once-here, split_once-further}
 
 -- the angles of bytes that were cut at a <
-abbrev angles_behind : Option (List ℕ × List ℕ) → List (List ℕ)
-angles_behind None = []
-angles_behind (Some p) = angles_from (Some []) p.1
+abbrev angles_after : Option (List ℕ × List ℕ) → List (List ℕ)
+angles_after None = []
+angles_after (Some p) = angles_from (Some []) p.1
 
-angles_behind-put_before : (b : ℕ) (parts : Option (List ℕ × List ℕ)) → angles_behind (put_before b parts) ≡ angles_behind parts
-angles_behind-put_before b None = refl
-angles_behind-put_before b (Some p) = refl
+angles_after-put_before : (b : ℕ) (parts : Option (List ℕ × List ℕ)) → angles_after (put_before b parts) ≡ angles_after parts
+angles_after-put_before b None = refl
+angles_after-put_before b (Some p) = refl
 
 -- no angle begins before the first <
-angles-open : (bs : List ℕ) → angles bs ≡ angles_behind (split_once bs 60)
+angles-open : (bs : List ℕ) → angles bs ≡ angles_after (split_once bs 60)
 angles-open [] = refl
 angles-open (b ∷ bs) = elim (cases_Bool (b == 60)) [
   | inl is ↦ (
       let opens : angles (b ∷ bs) ≡ angles_from (Some []) bs = rw is refl in
-      opens ∙ ap angles_behind (sym (split_once-here b bs 60 is)))
+      opens ∙ ap angles_after (sym (split_once-here b bs 60 is)))
   | inr other ↦ (
       let goes_on : angles (b ∷ bs) ≡ angles bs = rw other refl in
-      goes_on ∙ (angles-open bs ∙ (sym (angles_behind-put_before b (split_once bs 60)) ∙ ap angles_behind (sym (split_once-further b bs 60 other)))))
+      goes_on ∙ (angles-open bs ∙ (sym (angles_after-put_before b (split_once bs 60)) ∙ ap angles_after (sym (split_once-further b bs 60 other)))))
 ]
 
--- of bytes in an angle that were cut at a >: that angle, and those behind it
+-- of bytes in an angle that were cut at a >: that angle, and those after it
 abbrev angle_and_others : List ℕ → Option (List ℕ × List ℕ) → List (List ℕ)
 angle_and_others inside None = []
 angle_and_others inside (Some p) = (inside ++ p.0) ∷ angles p.1
@@ -57,12 +57,12 @@ texts p = (p.0.now, p.1.now)
 
 -- there is no angle without a <
 pub no_open : (bytes : List ℕ) → None ≡ split_once bytes 60 → angles bytes ≡ []
-no_open bytes none = angles-open bytes ∙ ap angles_behind (sym none)
+no_open bytes none = angles-open bytes ∙ ap angles_after (sym none)
 
 angles-cut : (bytes outside opened : List ℕ) → Some (outside, opened) ≡ split_once bytes 60 → angles bytes ≡ angle_and_others [] (split_once opened 62)
-angles-cut bytes outside opened cut = angles-open bytes ∙ (ap angles_behind (sym cut) ∙ angles-close [] opened)
+angles-cut bytes outside opened cut = angles-open bytes ∙ (ap angles_after (sym cut) ∙ angles-close [] opened)
 
--- the first angle, if there is one, is what stands before the first > behind the first <
+-- the first angle, if there is one, is what precedes the first > after the first <
 pub first_angle : (bytes outside opened : List ℕ) (found : Option (Bor (List ℕ) × Bor (List ℕ))) → Some (outside, opened) ≡ split_once bytes 60
     → option_map texts found ≡ split_once opened 62 → IfSome found (λ p. length p.1.now < length opened) → length opened < length bytes
     → MatchOption found (angles bytes ≡ []) (λ p. (angles bytes ≡ p.0.now ∷ angles p.1.now) × (length p.1.now < length bytes))

@@ -1,6 +1,6 @@
 -- Lemmas of this crate, and rows that compute.
 pub mod Angles
 pub mod Continuations
-pub mod CutLemmas
+pub mod SplitLemmas
 pub mod HeaderLines
 mod Rows

@@ -19,8 +19,8 @@ ends_in_cr_lf = refl
 folded : header_of (codes "A: b\n\tc\n  d: e\nF: g\n") ≡ head (field (codes "A") (codes "b\tc  d: e") ∷ field (codes "F") (codes "g") ∷ []) 20
 folded = refl
 
-folded_behind_nothing : header_of (codes "A:\n b\n") ≡ head (field (codes "A") (codes "b") ∷ []) 6
-folded_behind_nothing = refl
+folded_after_nothing : header_of (codes "A:\n b\n") ≡ head (field (codes "A") (codes "b") ∷ []) 6
+folded_after_nothing = refl
 
 folded_by_white_space : header_of (codes "A: b\n \n c\n\nd") ≡ head (field (codes "A") (codes "b  c") ∷ []) 11
 folded_by_white_space = refl

@@ -6,8 +6,8 @@ use Rattle.kit.specs.Printing.{is_visible}
 use Rattle.kit.specs.White.{is_white, trim, trim_end}
 use Rattle.mail_headers.specs.declared.field.Field.{Field}
 
--- What stands before the first colon of a line as a name, without white space at its end, and what stands behind. A name is
--- of visible characters, and none of them is a colon.
+-- What precedes the first colon of a line as a name, without white space at its end, and what follows it. A name is of
+-- visible characters, and none of them is a colon.
 abbrev pub named : List ℕ × List ℕ → Option (List ℕ × List ℕ)
 named p = if is_visible (trim_end p.0) then Some (trim_end p.0, p.1) else None
 

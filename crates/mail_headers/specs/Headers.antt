@@ -6,7 +6,7 @@ use Rattle.kit.specs.Lines.{raw_lines, content}
 use Rattle.mail_headers.specs.declared.field.Field.{Field}
 use Rattle.mail_headers.specs.Fields.{fields_of}
 
--- what contracts see of a `Header`: its fields in their order, and the place in the mail where the body begins
+-- what contracts see of a `Header`: its fields in their order, and the offset in the mail where the body begins
 pub record Head : Type 0 where
   pub fields : List Field
   pub body_at : ℕ
@@ -18,7 +18,7 @@ is_empty line = length line == 0
 abbrev pub header_lines : List (List ℕ) → List (List ℕ)
 header_lines raws = take_while (λ line. not (is_empty line)) (map content raws)
 
--- how many bytes the header's lines have, and the empty line behind them
+-- how many bytes the header's lines have, and the empty line after them
 abbrev pub header_len : List (List ℕ) → ℕ
 header_len raws = length (concat (take (length (header_lines raws) + 1) raws))
 
@@ -32,6 +32,6 @@ header_of mail =
 abbrev pub first_of : Head → List ℕ → Option (List ℕ)
 first_of head name = option_map (λ field. field.body) (find (λ field. same_name field.name name) head.fields)
 
--- the body of the first field of a name; a field that is missing says what an empty one does
+-- the body of the first field of a name; a field that is missing is as an empty one
 abbrev pub field : Head → List ℕ → List ℕ
 field head name = unwrap_or (first_of head name) []

@@ -4,7 +4,7 @@ use Rattle.std.specs.List.{slice_split, list_any}
 use Rattle.kit.specs.Ids.{is_id}
 use Rattle.kit.specs.White.{is_white}
 
--- What stands between each < (60) and the next > (62), from the left. The first argument is what an angle that is open has so
+-- What is between each < (60) and the next > (62), from the left. The first argument is what an angle that is open has so
 -- far; one that is never closed gives nothing.
 abbrev pub angles_from : Option (List ℕ) → List ℕ → List (List ℕ)
 angles_from inside [] = []
@@ -21,6 +21,6 @@ without_white bytes = filter (λ b. not (is_white b)) bytes
 abbrev pub at_words : List ℕ → List (List ℕ)
 at_words bytes = filter (list_any (λ b. b == 64)) (slice_split (λ b. is_white b || b == 44) bytes)
 
--- the ids among the angles, where a < stands, else among those words
+-- the ids among the angles, where a < is present, else among those words
 abbrev pub ids : List ℕ → List (List ℕ)
 ids bytes = filter is_id (if list_any (λ b. b == 60) bytes then map without_white (angles bytes) else at_words bytes)

@@ -1,3 +1,4 @@
-pub mod Fields
+-- What public clauses cite.
 pub mod Headers
+pub mod Fields
 pub mod Ids

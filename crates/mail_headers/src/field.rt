@@ -9,7 +9,7 @@ use std::alloc::Global;
 /// A field of a header (RFC 5322, section 2.2).
 #[derive(Debug, Drop)]
 pub struct Field {
-    /// One or more bytes from 33 to 126, none of them a colon, in the case in which they stand.
+    /// One or more bytes from 33 to 126, none of them a colon, in the case in which they are written.
     pub name: Bytes,
     /// What follows the colon, unfolded and without outer white space: bytes of any kind and number.
     pub body: Bytes,
@@ -20,8 +20,8 @@ pub struct Field {
 fn name_and_rest(line: &[u8]) -> Option<(&[u8], &[u8])>
     ensures { option_map (λ p. (p.0.now, p.1.now)) result ≡ name_and_rest line.now }
 {
-    let (front, rest) = split_once(line, b':')?;
-    let name = trim_end(front);
+    let (before, rest) = split_once(line, b':')?;
+    let name = trim_end(before);
     if !is_visible(name) {
         return None;
     }
@@ -60,8 +60,8 @@ fn body_of(alloc: Global, rest: &[u8], following: &[&[u8]]) -> Result<Bytes, Mem
     Bytes::from_slice(alloc, trim(&unfolded))
 }
 
-/// The fields that begin in these lines, which stand without their line ends. A line that begins no
-/// field is skipped, and the lines that continue it with it. Takes memory.
+/// The fields that begin in these lines, which are without their line ends. A line that begins no
+/// field is skipped, and the lines that continue it with it. Takes memory; `Err` only when it runs out.
 pub fn fields_of(alloc: Global, lines: &[&[u8]]) -> Result<Vec<Field>, Memory>
     ensures { IfOk result (λ fields. fields.items ≡ fields_of (map (λ line. line.now) lines.now)) }
 {

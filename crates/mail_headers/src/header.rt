@@ -4,11 +4,11 @@ ghost use Rattle.kit.specs.Lines.{raw_lines};
 ghost use Rattle.mail_headers.specs.Headers.{header_lines, header_len, header_of};
 
 use crate::field::{Field, fields_of};
-use kit::{Memory, content, same_name};
+use kit::{Memory, content, same_name, split_line};
 use std::alloc::Global;
 use std::marker::Model;
 
-/// The header of a mail (RFC 5322, section 2.2): its fields in their order, and the place in the mail
+/// The header of a mail (RFC 5322, section 2.2): its fields in their order, and the offset in the mail
 /// where the body begins.
 #[derive(Debug, Drop)]
 pub struct Header {
@@ -32,7 +32,7 @@ impl Header {
 
     /// The body of the first field of that name, where the case of ASCII letters does not count:
     /// `None` exactly where the header has no field of that name. The body is what follows the colon,
-    /// with the contents of the lines that continue it appended as they stand, and without outer white
+    /// with the contents of the lines that continue it appended as they are, and without outer white
     /// space (RFC 5322, sections 2.2.3 and 3.6). Takes no memory.
     pub fn first(&self, name: &[u8]) -> Option<&[u8]>
         ensures body { option_copied result ≡ first_of self.now name.now }
@@ -60,7 +60,7 @@ impl Header {
         self.fields.len()
     }
 
-    /// Where the body begins, as an offset from the beginning of the mail: behind the first empty line,
+    /// Where the body begins, as an offset from the beginning of the mail: after the first empty line,
     /// or where the mail ends if there is none. Takes no memory.
     pub fn body_at(&self) -> usize
         ensures { result ≡ self.now.body_at }
@@ -69,29 +69,29 @@ impl Header {
     }
 }
 
-/// The contents of the header's lines, and the place where the body begins.
+/// The contents of the header's lines, and the offset where the body begins.
 fn header_lines(alloc: Global, mail: &[u8]) -> Result<(Vec<&[u8]>, usize), Memory>
     ensures lines { IfOk result (λ p. map (λ line. line.now) p.0.items ≡ header_lines (raw_lines mail.now)) }
-    ensures place { IfOk result (λ p. p.1 ≡ header_len (raw_lines mail.now)) }
+    ensures offset { IfOk result (λ p. p.1 ≡ header_len (raw_lines mail.now)) }
     ensures within { IfOk result (λ p. p.1 ≤ length mail.now) }
 {
     let mut found = Vec::new(alloc);
-    let mut at = 0;
-    for raw in mail.split_inclusive(|b| *b == b'\n') {
-        at += raw.len();
+    let mut left = mail;
+    while let Some((raw, rest)) = split_line(left) {
+        left = rest;
         let line = content(raw);
         if line.is_empty() {
             break;
         }
         found.push(line)?;
     }
-    Ok((found, at))
+    Ok((found, mail.len() - left.len()))
 }
 
 /// Reads the header of a mail: the lines before the first empty one, or all (RFC 5322, sections 2.1,
 /// 2.2 and 4.5). A field begins in a line of a name, white space or none, and a colon; lines that begin
 /// with white space continue it. Every other line is skipped, with those that continue it. Any bytes are
-/// a mail. Takes memory for a copy of each name and body, and is `Err` only where there is none.
+/// a mail. Takes memory for a copy of each name and body; `Err` only when it runs out.
 pub fn read_header(alloc: Global, mail: &[u8]) -> Result<Header, Memory>
     ensures read { IfOk result (λ header. header ≡ header_of mail.now) }
     ensures within { IfOk result (λ header. header.body_at ≤ length mail.now) }

@@ -6,7 +6,7 @@ ghost use Rattle.mail_headers.specs.Ids.{angles, without_white, at_words, ids};
 use kit::{Id, Memory, is_white, split_once};
 use std::alloc::Global;
 
-/// What stands in the first angle, and what follows it.
+/// What the first angle brackets enclose, and what follows them.
 fn first_angle(bytes: &[u8]) -> Option<(&[u8], &[u8])>
     ensures { MatchOption result (angles bytes.now ≡ [])
         (λ p. (angles bytes.now ≡ p.0.now ∷ angles p.1.now) × (length p.1.now < length bytes.now)) }
@@ -41,9 +41,9 @@ fn angle_ids(alloc: Global, body: &[u8]) -> Result<Vec<Id>, Memory>
 {
     let mut found = Vec::new(alloc);
     let mut rest = body;
-    while let Some((inside, behind)) = first_angle(rest) {
+    while let Some((inside, after)) = first_angle(rest) {
         push_id(alloc, &mut found, &without_white(alloc, inside)?)?;
-        rest = behind;
+        rest = after;
     }
     Ok(found)
 }
@@ -69,11 +69,11 @@ fn word_ids(alloc: Global, body: &[u8]) -> Result<Vec<Id>, Memory>
     Ok(found)
 }
 
-/// The ids in the body of a field such as Message-ID or References, in their order; one that stands
+/// The ids in the body of a field such as Message-ID or References, in their order; one that is there
 /// twice is given twice (RFC 5322, sections 3.6.4 and 4.5.4). Where the body holds a `<`, these are
-/// what stands between each `<` and the next `>`, with white space removed, where that reads as an id.
+/// what is between each `<` and the next `>`, with white space removed, where that reads as an id.
 /// Where it holds none, they are the words between white space and commas that hold an `@` and read as
-/// an id. White space is space and tab. Takes memory, and is `Err` only where there is none.
+/// an id. White space is space and tab. Takes memory; `Err` only when it runs out.
 pub fn ids(alloc: Global, body: &[u8]) -> Result<Vec<Id>, Memory>
     ensures { IfOk result (λ found. found.items ≡ ids body.now) }
 {

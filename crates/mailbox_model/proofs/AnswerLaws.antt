@@ -4,7 +4,7 @@ use Rattle.mailbox_model.specs.Mailbox.{Mailbox}
 use Rattle.mailbox_model.specs.Answers.{Question, answer}
 use Rattle.mailbox_model.specs.Answers.Question.{AllChats, OneChat, AllContacts, AllUpdates, InfoUpdates}
 
--- the next uid tells nothing
+-- the next uid does not matter
 any_next : (m : Mailbox) (next : ℕ) (question : Question) → answer m question ≡ answer (record m { next_uid = next }) question
 any_next m next AllChats = refl
 any_next m next (OneChat key) = refl

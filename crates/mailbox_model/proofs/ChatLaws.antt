@@ -17,11 +17,11 @@ use Rattle.std.proofs.lemmas.List.{append-nil, map-append}
 use Rattle.mailbox_model.specs.Mailbox.{Mailbox}
 use Rattle.mailbox_model.specs.Present.{Mail, mails, same_id, present, contents}
 use Rattle.mailbox_model.specs.Chats.{cites_of, cites, chat}
-use Rattle.kit.proofs.Distinct.{IsDistinct-filter, IsDistinct-firsts}
+use Rattle.lists.proofs.DistinctLaws.{IsDistinct-filter, IsDistinct-firsts}
 use Rattle.mailbox_model.proofs.MailLaws.{bytes_turn}
-use Rattle.mailbox_model.proofs.PutLaws.{found_passes}
+use Rattle.lists.proofs.Inserts.{found_passes}
 
--- no id stands twice
+-- no id is there twice
 abbrev pub DistinctIds : List Cites → Type 0
 DistinctIds [] = Unit {0}
 DistinctIds (t ∷ ts) = (has_cites ts t.spot.id ≡ false) × DistinctIds ts

@@ -1,4 +1,4 @@
--- Worked edges of the rules: each mailbox shows one of them.
+-- Worked edges of the rules, each of them in a mailbox of its own.
 use Rattle.std.proofs.Common.{◌≡◌, refl, false, true, Some, None, [], ◌∷◌, ◌++◌}
 use Rattle.std.specs.Prelude.{codes, replicate}
 use Rattle.std.specs.Fmt.{digits}

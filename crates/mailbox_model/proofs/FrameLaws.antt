@@ -12,9 +12,9 @@ use Rattle.mailbox_model.specs.Lists.{last_of}
 use Rattle.mailbox_model.specs.Mailbox.{Mailbox}
 use Rattle.mailbox_model.specs.Present.{Mail}
 use Rattle.mailbox_model.specs.Chats.{chat_mails}
-use Rattle.mailbox_model.specs.Rows.{row, spoken, mark_of, readers_by, updates_by}
+use Rattle.mailbox_model.specs.Rows.{row, text_card, mark_of, readers_by, updates_by}
 use Rattle.mailbox_model.specs.Rosters.{roster_of, roster}
-use Rattle.mailbox_model.specs.Names.{told_name, name}
+use Rattle.mailbox_model.specs.Names.{name_or_empty, name}
 use Rattle.mailbox_model.specs.Pages.{keys, page_of, page, shown_rows}
 use Rattle.mailbox_model.specs.Frames.{IsCardAlike, IsChatAlike}
 use Rattle.mailbox_model.proofs.ListLaws.{keys_are}
@@ -29,8 +29,8 @@ row_alike m n me t s = λ i.
       from = t.card.from;
       chat = t.card.chat;
       subject = t.card.subject;
-      text = (spoken (last_of (s.acts effects.Edit i)) t.card).text;
-      cut = (spoken (last_of (s.acts effects.Edit i)) t.card).cut;
+      text = (text_card (last_of (s.acts effects.Edit i)) t.card).text;
+      cut = (text_card (last_of (s.acts effects.Edit i)) t.card).cut;
       edited = is_some (last_of (s.acts effects.Edit i));
       mark = mark_of (me i) t;
       attachments = t.card.attachments;
@@ -51,14 +51,14 @@ module _ (m n : Mailbox) (key : ChatKey) (alike : IsChatAlike m n key) where
       same : chat_mails m k ≡ chat_mails n k
       same = ap (chat_mails m) (sym e) ∙ alike.mails ∙ ap (chat_mails n) e
 
-  told : (k : ChatKey) → key ≡ k → told_name m k ≡ told_name n k
-  told SelfChat e = refl
-  told (Single a) e = alike.name a e
-  told (Group g) e = ap (λ r. r.name) (rosters (Group g) e)
-  told (Thread i) e = ap (λ r. r.name) (rosters (Thread i) e)
+  names_or_empty : (k : ChatKey) → key ≡ k → name_or_empty m k ≡ name_or_empty n k
+  names_or_empty SelfChat e = refl
+  names_or_empty (Single a) e = alike.name a e
+  names_or_empty (Group g) e = ap (λ r. r.name) (rosters (Group g) e)
+  names_or_empty (Thread i) e = ap (λ r. r.name) (rosters (Thread i) e)
 
   names : name m key ≡ name n key
-  names = ap (λ text. if has_some text then text else key_text key) (told key refl)
+  names = ap (λ text. if has_some text then text else key_text key) (names_or_empty key refl)
 
   rows : shown_rows m key ≡ shown_rows n key
   rows = rows_alike m n alike.me (chat_mails m key) alike.each ∙ ap (filter_map (row n)) alike.mails

@@ -1,6 +1,4 @@
 -- Laws of the definitions, and rows that compute.
-pub mod OrderLaws
-pub mod PutLaws
 pub mod MailLaws
 pub mod TurnLaws
 pub mod ChatLaws

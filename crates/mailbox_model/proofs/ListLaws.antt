@@ -15,15 +15,16 @@ use Rattle.card_type.specs.Keys.{key_rank, key_bytes, key_cmp, key_eq, key_at, k
 use Rattle.card_type.specs.Kinds.{has_some, kind_of, is_content}
 use Rattle.card_type.proofs.Orders.{keys_total, keys_exact}
 use Rattle.mailbox_model.specs.declared.list.ListRow.{ListRow}
-use Rattle.mailbox_model.specs.Lists.{Bytes, put_in, sorted_by}
+use Rattle.lists.specs.Sorted.{insert_by, sorted_by}
+use Rattle.mailbox_model.specs.Lists.{Bytes}
 use Rattle.mailbox_model.specs.Mailbox.{Mailbox}
 use Rattle.mailbox_model.specs.Present.{Mail, mails, same_id, present, contents}
 use Rattle.mailbox_model.specs.Chats.{Known, chat_at, chats, chat, is_chat, cites, cites_of, chat_mails}
 use Rattle.mailbox_model.specs.Pages.{keys, page_of, page}
 use Rattle.mailbox_model.specs.ChatList.{list, list_row, list_cmp, latest_cmp}
-use Rattle.kit.proofs.Distinct.{IsDistinct-filter, IsDistinct-firsts}
-use Rattle.mailbox_model.proofs.OrderLaws.{Rising, below_of, never_back, apart, second_Equal, sorted_from}
-use Rattle.mailbox_model.proofs.PutLaws.{agree, None_of, All-put_in, Placed, Rising-put_in, find-firsts, list_any-found}
+use Rattle.lists.proofs.DistinctLaws.{IsDistinct-filter, IsDistinct-firsts}
+use Rattle.lists.proofs.Rising.{Rising, below_of, never_back, apart, second_Equal, sorted_from}
+use Rattle.lists.proofs.Inserts.{agree, None_of, All-insert_by, Placed, Rising-insert_by, find-firsts, list_any-found}
 use Rattle.mailbox_model.proofs.PresentLaws.{permuted}
 use Rattle.mailbox_model.proofs.ChatLaws.{same_bytes, ids-chats_after}
 use Rattle.mailbox_model.proofs.MailLaws.{bytes_turn}
@@ -40,10 +41,10 @@ key_self a =
     and_from (key_rank a == key_rank a) (bytes_eq (key_bytes a) (key_bytes a)) (eq-eqb (key_rank a) (key_rank a) refl) (same_bytes (key_bytes a))
 
 key_turn : (a b : ChatKey) → key_eq a b ≡ key_eq b a
-key_turn a b = agree (key_eq a b) (key_eq b a) (back a b) (back b a)
+key_turn a b = agree (key_eq a b) (key_eq b a) (turned a b) (turned b a)
   where
-    back : (a b : ChatKey) → key_eq a b ≡ true → key_eq b a ≡ true
-    back a b e = subst (λ c. key_eq c a ≡ true) (key_same a b e) (key_self a)
+    turned : (a b : ChatKey) → key_eq a b ≡ true → key_eq b a ≡ true
+    turned a b e = subst (λ c. key_eq c a ≡ true) (key_same a b e) (key_self a)
 
 -- ---- the order of rows
 
@@ -63,19 +64,19 @@ placed : (x : ListRow) (zs : List ListRow) → None_of (same_key x) zs
 placed x [] n = tt
 placed x (z ∷ zs) n = (apart list_cmp list_total x z (no_tie x z n.0), placed x zs n.1)
 
--- rows that differ in their keys, put in one by one
+-- rows that differ in their keys, inserted one by one
 rising_from : (zs xs : List ListRow) → IsDistinct same_key xs → AllByRecursion (λ x. None_of (same_key x) zs) xs
-    → Rising list_cmp zs → Rising list_cmp (fold (λ sorted x. put_in list_cmp x sorted) zs xs)
+    → Rising list_cmp zs → Rising list_cmp (fold (λ sorted x. insert_by list_cmp x sorted) zs xs)
 unfolding IsDistinct
 rising_from zs [] d n r = r
 rising_from zs (x ∷ xs) d n r =
-    rising_from (put_in list_cmp x zs) xs d.1 (still xs d.0 n.1) (Rising-put_in list_cmp (below_of list_cmp list_total) (never_back list_cmp list_total) x zs (placed x zs n.0) r)
+    rising_from (insert_by list_cmp x zs) xs d.1 (still xs d.0 n.1) (Rising-insert_by list_cmp (below_of list_cmp list_total) (never_back list_cmp list_total) x zs (placed x zs n.0) r)
   where
     still : (ys : List ListRow) → AllByRecursion (λ y. same_key x y ≡ false) ys
         → AllByRecursion (λ y. None_of (same_key y) zs) ys
-        → AllByRecursion (λ y. None_of (same_key y) (put_in list_cmp x zs)) ys
+        → AllByRecursion (λ y. None_of (same_key y) (insert_by list_cmp x zs)) ys
     still [] a b = tt
-    still (y ∷ ys) a b = (All-put_in list_cmp (λ z. same_key y z ≡ false) x zs (key_turn y.key x.key ∙ a.0) b.0, still ys a.1 b.1)
+    still (y ∷ ys) a b = (All-insert_by list_cmp (λ z. same_key y z ≡ false) x zs (key_turn y.key x.key ∙ a.0) b.0, still ys a.1 b.1)
 
 distinct_rows : (m : Mailbox) (ks : List ChatKey) → IsDistinct key_eq ks → IsDistinct same_key (map (list_row m) ks)
 unfolding IsDistinct
@@ -111,12 +112,12 @@ OnceKnown ks = IsDistinct bytes_eq (map (λ k. k.0) ks)
 each_found : (ks : Known) → OnceKnown ks → AllByRecursion (λ k. chat_at ks k.0 ≡ Some k.1) ks
 unfolding IsDistinct
 each_found [] d = tt
-each_found (k ∷ ks) d = (rw (same_bytes k.0, find) refl, behind ks d.0 (each_found ks d.1))
+each_found (k ∷ ks) d = (rw (same_bytes k.0, find) refl, after ks d.0 (each_found ks d.1))
   where
-    behind : (js : Known) → AllByRecursion (λ id. bytes_eq k.0 id ≡ false) (map (λ j. j.0) js)
+    after : (js : Known) → AllByRecursion (λ id. bytes_eq k.0 id ≡ false) (map (λ j. j.0) js)
         → AllByRecursion (λ j. chat_at ks j.0 ≡ Some j.1) js → AllByRecursion (λ j. chat_at (k ∷ ks) j.0 ≡ Some j.1) js
-    behind [] a b = tt
-    behind (j ∷ js) a b = (rw (bytes_turn j.0 k.0 ∙ a.0, find) b.0, behind js a.1 b.1)
+    after [] a b = tt
+    after (j ∷ js) a b = (rw (bytes_turn j.0 k.0 ∙ a.0, find) b.0, after js a.1 b.1)
 
 any_known : (key : ChatKey) (whole ks : Known) → AllByRecursion (λ k. chat_at whole k.0 ≡ Some k.1) ks
     → list_any (λ k. key_eq key k.1) ks ≡ list_any (λ id. is_chat key (chat_at whole id)) (map (λ k. k.0) ks)

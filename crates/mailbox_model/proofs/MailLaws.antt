@@ -19,12 +19,13 @@ use Rattle.card_type.specs.Spots.{spot_cmp}
 use Rattle.card_type.proofs.Orders.{spots_total}
 use Rattle.mailbox_model.specs.declared.change.Fault.{Fault}
 use Rattle.mailbox_model.specs.declared.change.Change.TheVariants.{Arrive, ArriveFault, Expunge, Seen}
-use Rattle.mailbox_model.specs.Lists.{Bytes, put_in, sorted_by}
+use Rattle.lists.specs.Sorted.{insert_by, sorted_by}
+use Rattle.mailbox_model.specs.Lists.{Bytes}
 use Rattle.mailbox_model.specs.Mailbox.{Mailbox, Item, after, arrival, has_uid, marked, RiseBelow}
 use Rattle.mailbox_model.specs.Present.{Mail, mail_with, mail_by, mail_of, spot, mail_cmp, mails, same_id}
 use Rattle.mailbox_model.specs.Turns.{arriving, has_mail_uid, seen_at}
-use Rattle.mailbox_model.proofs.OrderLaws.{below_of, never_back, apart, second_Equal, Rising, IsAlike, IsBelow, filter-insert_kept, filter-insert_dropped}
-use Rattle.mailbox_model.proofs.PutLaws.{agree, Placed, Rising-put_in, None_of, All-put_in, IsDistinct-put_in}
+use Rattle.lists.proofs.Rising.{below_of, never_back, apart, second_Equal, Rising, IsAlike, IsBelow, filter-insert_by-kept, filter-insert_by-dropped}
+use Rattle.lists.proofs.Inserts.{agree, Placed, Rising-insert_by, None_of, All-insert_by, IsDistinct-insert_by}
 
 -- ---- mail order is a strict order, and mails of one id are alike
 
@@ -59,7 +60,7 @@ uid_alike = record { turn = λ x y. turn x.uid y.uid; alike = λ x y z e. ap (λ
     turn : (a b : ℕ) → (a == b) ≡ (b == a)
     turn a b = agree (a == b) (b == a) (λ e. eq-eqb b a (sym (eqb-true a b e))) (λ e. eq-eqb a b (sym (eqb-true b a e)))
 
--- ---- mails are put in one by one, by rising uids
+-- ---- mails are inserted one by one, by rising uids
 
 -- mails with different uids don't tie
 no_tie : (y z : Mail) → z.uid < y.uid → mail_cmp y z ≢ Equal
@@ -83,9 +84,9 @@ placed : (y : Mail) (zs : List Mail) → AllUnder y.uid zs → Placed mail_cmp i
 placed y [] a = tt
 placed y (z ∷ zs) a = (apart mail_cmp order y z (no_tie y z a.0), placed y zs a.1)
 
--- those of items whose uids rise, put in after some with lower uids
-abbrev put_all : List Mail → List Mail → List Mail
-put_all zs ys = fold (λ sorted y. put_in mail_cmp y sorted) zs ys
+-- those of items whose uids rise, inserted after some with lower uids
+abbrev insert_all : List Mail → List Mail → List Mail
+insert_all zs ys = fold (λ sorted y. insert_by mail_cmp y sorted) zs ys
 
 -- in order, each uid once and below a bound
 pub record IsLine (bound : ℕ) (zs : List Mail) : Type 0 where
@@ -98,13 +99,13 @@ unfolding IsDistinct
 no_mails bound = record { rising = tt; once = tt; under = tt }
 
 line_with : (bound : ℕ) (y : Mail) (zs : List Mail) → bound ≤ y.uid → IsLine bound zs
-    → IsLine (y.uid + 1) (put_in mail_cmp y zs)
+    → IsLine (y.uid + 1) (insert_by mail_cmp y zs)
 line_with bound y zs h line =
     let low : AllUnder y.uid zs = AllUnder-more bound y.uid zs h line.under in
     record {
-      rising = Rising-put_in mail_cmp is_below is_never_back y zs (placed y zs low) line.rising;
-      once = IsDistinct-put_in mail_cmp same_uid uid_alike.turn y zs (new_uid y zs low) line.once;
-      under = All-put_in mail_cmp (λ z. z.uid < y.uid + 1) y zs (omega arith) (AllUnder-more y.uid (y.uid + 1) zs (omega arith) low);
+      rising = Rising-insert_by mail_cmp is_below is_never_back y zs (placed y zs low) line.rising;
+      once = IsDistinct-insert_by mail_cmp same_uid uid_alike.turn y zs (new_uid y zs low) line.once;
+      under = All-insert_by mail_cmp (λ z. z.uid < y.uid + 1) y zs (omega arith) (AllUnder-more y.uid (y.uid + 1) zs (omega arith) low);
     }
 
 line_more : (low more : ℕ) (zs : List Mail) → low ≤ more → IsLine low zs → IsLine more zs
@@ -112,11 +113,11 @@ line_more low more zs h line =
     record { rising = line.rising; once = line.once; under = AllUnder-more low more zs h line.under }
 
 line_from : (low next : ℕ) (zs : List Mail) (items : List Item) → RiseBelow low items next → IsLine low zs
-    → IsLine next (put_all zs (filter_map mail_of items))
+    → IsLine next (insert_all zs (filter_map mail_of items))
 line_from low next zs [] u line = line_more low next zs u line
 line_from low next zs (item ∷ items) u line =
-    elim item.mail as (λ mail. IsLine next (put_all zs (cons_option (mail_by item mail) (filter_map mail_of items)))) [
-      | Ok card ↦ line_from (item.uid + 1) next (put_in mail_cmp (mail_with item card) zs) items u.1 (line_with low (mail_with item card) zs u.0 line)
+    elim item.mail as (λ mail. IsLine next (insert_all zs (cons_option (mail_by item mail) (filter_map mail_of items)))) [
+      | Ok card ↦ line_from (item.uid + 1) next (insert_by mail_cmp (mail_with item card) zs) items u.1 (line_with low (mail_with item card) zs u.0 line)
       | Err fault ↦ line_from (item.uid + 1) next zs items u.1 (let first : low ≤ item.uid = u.0 in line_more low (item.uid + 1) zs (omega arith) line)
     ]
 
@@ -125,10 +126,10 @@ line_of m u = line_from 1 m.next_uid [] m.items u (no_mails 1)
 
 -- ---- an arrival
 
-pub mails-arrive : (m : Mailbox) (card : Card) → mails (after m (Arrive card)) ≡ put_in mail_cmp (arriving m card) (mails m)
+pub mails-arrive : (m : Mailbox) (card : Card) → mails (after m (Arrive card)) ≡ insert_by mail_cmp (arriving m card) (mails m)
 mails-arrive m card =
     ap (sorted_by mail_cmp) (filter_map-append mail_of m.items (arrival m (Ok card) ∷ []))
-    ∙ fold_push (λ sorted y. put_in mail_cmp y sorted) [] (filter_map mail_of m.items) (arriving m card)
+    ∙ fold_push (λ sorted y. insert_by mail_cmp y sorted) [] (filter_map mail_of m.items) (arriving m card)
 
 pub mails-fault : (m : Mailbox) (fault : Fault) → mails (after m (ArriveFault fault)) ≡ mails m
 mails-fault m fault =
@@ -143,32 +144,32 @@ abbrev left : ℕ → List Item → List Item
 left uid items = filter (λ item. not (has_uid uid item)) items
 
 expunged_from : (uid low next : ℕ) (zs : List Mail) (items : List Item) → RiseBelow low items next → IsLine low zs →
-    but_uid uid (put_all zs (filter_map mail_of items)) ≡ put_all (but_uid uid zs) (filter_map mail_of (left uid items))
+    but_uid uid (insert_all zs (filter_map mail_of items)) ≡ insert_all (but_uid uid zs) (filter_map mail_of (left uid items))
 expunged_from uid low next zs [] u line = refl
 expunged_from uid low next zs (item ∷ items) u line =
-    elim item.mail as (λ mail. but_uid uid (put_all zs (cons_option (mail_by item mail) (filter_map mail_of items))) ≡ put_all (but_uid uid zs) (rest mail (not (has_uid uid item)))) [
+    elim item.mail as (λ mail. but_uid uid (insert_all zs (cons_option (mail_by item mail) (filter_map mail_of items))) ≡ insert_all (but_uid uid zs) (rest mail (not (has_uid uid item)))) [
       | Ok card ↦
           let y = mail_with item card in
-          expunged_from uid (item.uid + 1) next (put_in mail_cmp y zs) items u.1 (line_with low y zs u.0 line)
+          expunged_from uid (item.uid + 1) next (insert_by mail_cmp y zs) items u.1 (line_with low y zs u.0 line)
           ∙ by (not (has_uid uid item)) refl card
       | Err fault ↦
           let first : low ≤ item.uid = u.0 in
           expunged_from uid (item.uid + 1) next zs items u.1 (line_more low (item.uid + 1) zs (omega arith) line) ∙ skip fault (not (has_uid uid item))
-    ] ∙ ap (λ ys. put_all (but_uid uid zs) ys) (whole (not (has_uid uid item)))
+    ] ∙ ap (λ ys. insert_all (but_uid uid zs) ys) (whole (not (has_uid uid item)))
   where
     rest : Result Card Fault → Bool → List Mail
     rest mail b =
         cond b (cons_option (mail_by item mail) (filter_map mail_of (left uid items))) (filter_map mail_of (left uid items))
 
     by : (b : Bool) → not (has_uid uid item) ≡ b → (card : Card)
-        → put_all (but_uid uid (put_in mail_cmp (mail_with item card) zs)) (filter_map mail_of (left uid items)) ≡ put_all (but_uid uid zs) (rest (Ok card) b)
+        → insert_all (but_uid uid (insert_by mail_cmp (mail_with item card) zs)) (filter_map mail_of (left uid items)) ≡ insert_all (but_uid uid zs) (rest (Ok card) b)
     by true e card =
-        ap (λ s. put_all s (filter_map mail_of (left uid items))) (filter-insert_kept mail_cmp is_below.trans (λ z. not (has_mail_uid uid z)) (mail_with item card) zs e line.rising)
+        ap (λ s. insert_all s (filter_map mail_of (left uid items))) (filter-insert_by-kept mail_cmp is_below.trans (λ z. not (has_mail_uid uid z)) (mail_with item card) zs e line.rising)
     by false e card =
-        ap (λ s. put_all s (filter_map mail_of (left uid items))) (filter-insert_dropped mail_cmp (λ z. not (has_mail_uid uid z)) (mail_with item card) zs e)
+        ap (λ s. insert_all s (filter_map mail_of (left uid items))) (filter-insert_by-dropped mail_cmp (λ z. not (has_mail_uid uid z)) (mail_with item card) zs e)
 
     skip : (fault : Fault) (b : Bool)
-        → put_all (but_uid uid zs) (filter_map mail_of (left uid items)) ≡ put_all (but_uid uid zs) (rest (Err fault) b)
+        → insert_all (but_uid uid zs) (filter_map mail_of (left uid items)) ≡ insert_all (but_uid uid zs) (rest (Err fault) b)
     skip fault true = refl
     skip fault false = refl
 
@@ -182,11 +183,11 @@ mails-expunge m uid u = sym (expunged_from uid 1 m.next_uid [] m.items u (no_mai
 
 -- ---- a seen mark
 
-put_in-seen : (uid now : ℕ) (y : Mail) (zs : List Mail)
-    → map (seen_at uid now) (put_in mail_cmp y zs) ≡ put_in mail_cmp (seen_at uid now y) (map (seen_at uid now) zs)
-put_in-seen uid now y [] = refl
-put_in-seen uid now y (z ∷ zs) =
-    turn (earlier y z) _ _ (put_in-seen uid now y zs) ∙ ap (λ o. if is_lt o then seen_at uid now y ∷ seen_at uid now z ∷ map (seen_at uid now) zs else seen_at uid now z ∷ put_in mail_cmp (seen_at uid now y) (map (seen_at uid now) zs)) (λ i. spot_cmp (spots y i) (spots z i))
+insert_by-seen : (uid now : ℕ) (y : Mail) (zs : List Mail)
+    → map (seen_at uid now) (insert_by mail_cmp y zs) ≡ insert_by mail_cmp (seen_at uid now y) (map (seen_at uid now) zs)
+insert_by-seen uid now y [] = refl
+insert_by-seen uid now y (z ∷ zs) =
+    turn (earlier y z) _ _ (insert_by-seen uid now y zs) ∙ ap (λ o. if is_lt o then seen_at uid now y ∷ seen_at uid now z ∷ map (seen_at uid now) zs else seen_at uid now z ∷ insert_by mail_cmp (seen_at uid now y) (map (seen_at uid now) zs)) (λ i. spot_cmp (spots y i) (spots z i))
   where
     spots : (t : Mail) → spot t ≡ spot (seen_at uid now t)
     spots t =
@@ -198,15 +199,15 @@ put_in-seen uid now y (z ∷ zs) =
     turn false us vs h = ap (λ ws. seen_at uid now z ∷ ws) h
 
 seen_from : (uid now : ℕ) (zs : List Mail) (items : List Item)
-    → map (seen_at uid now) (put_all zs (filter_map mail_of items)) ≡ put_all (map (seen_at uid now) zs) (filter_map mail_of (map (marked uid now) items))
+    → map (seen_at uid now) (insert_all zs (filter_map mail_of items)) ≡ insert_all (map (seen_at uid now) zs) (filter_map mail_of (map (marked uid now) items))
 seen_from uid now zs [] = refl
 seen_from uid now zs (item ∷ items) =
-    elim item.mail as (λ mail. map (seen_at uid now) (put_all zs (cons_option (mail_by item mail) (filter_map mail_of items))) ≡ put_all (map (seen_at uid now) zs) (cons_option (seen_by mail) (filter_map mail_of (map (marked uid now) items)))) [
+    elim item.mail as (λ mail. map (seen_at uid now) (insert_all zs (cons_option (mail_by item mail) (filter_map mail_of items))) ≡ insert_all (map (seen_at uid now) zs) (cons_option (seen_by mail) (filter_map mail_of (map (marked uid now) items)))) [
       | Ok card ↦
-          seen_from uid now (put_in mail_cmp (mail_with item card) zs) items
-          ∙ ap (λ ws. put_all ws (filter_map mail_of (map (marked uid now) items))) (put_in-seen uid now (mail_with item card) zs)
+          seen_from uid now (insert_by mail_cmp (mail_with item card) zs) items
+          ∙ ap (λ ws. insert_all ws (filter_map mail_of (map (marked uid now) items))) (insert_by-seen uid now (mail_with item card) zs)
       | Err fault ↦ seen_from uid now zs items
-    ] ∙ ap (λ o. put_all (map (seen_at uid now) zs) (cons_option o (filter_map mail_of (map (marked uid now) items)))) (same (has_uid uid item))
+    ] ∙ ap (λ o. insert_all (map (seen_at uid now) zs) (cons_option o (filter_map mail_of (map (marked uid now) items)))) (same (has_uid uid item))
   where
     mark : Bool → Mail → Mail
     mark b t = if b then record t { seen = option_or t.seen (Some now) } else t

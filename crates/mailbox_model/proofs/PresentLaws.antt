@@ -9,31 +9,32 @@ use Rattle.std.specs.Ordering.{is_lt}
 use Rattle.std.specs.Cmp.Lexicographic.{bytes_decides}
 use Rattle.std.proofs.lemmas.List.{append-nil}
 use Rattle.std.proofs.lemmas.List.Sorted.{IsPermutation-refl, IsPermutation-cons, IsPermutation-trans, IsPermutation-middle, IsPermutation-sym, IsPermutation-append_right}
-use Rattle.mailbox_model.specs.Lists.{Bytes, put_in, sorted_by}
+use Rattle.lists.specs.Sorted.{insert_by, sorted_by}
+use Rattle.mailbox_model.specs.Lists.{Bytes}
 use Rattle.mailbox_model.specs.Mailbox.{Mailbox, RiseBelow}
 use Rattle.mailbox_model.specs.Present.{mail_of, mail_cmp, mails, has_id, same_id, present}
-use Rattle.kit.proofs.Distinct.{IsDistinct-firsts}
-use Rattle.mailbox_model.proofs.OrderLaws.{Rising-firsts, sorted_from}
-use Rattle.mailbox_model.proofs.PutLaws.{find-firsts}
+use Rattle.lists.proofs.DistinctLaws.{IsDistinct-firsts}
+use Rattle.lists.proofs.Rising.{Rising-firsts, sorted_from}
+use Rattle.lists.proofs.Inserts.{find-firsts}
 use Rattle.mailbox_model.proofs.MailLaws.{order, line_of}
 
 -- ---- a sorted list has the same elements
 
 module _ {X : Type 0} (cmp : X → X → Ordering) where
-  permuted-put_in : (x : X) (ys : List X) → IsPermutation (x ∷ ys) (put_in cmp x ys)
-  permuted-put_in x [] = IsPermutation-refl (x ∷ [])
-  permuted-put_in x (y ∷ ys) =
-      elim (is_lt (cmp x y)) as (λ b. IsPermutation (x ∷ y ∷ ys) (if b then x ∷ y ∷ ys else y ∷ put_in cmp x ys)) [
+  permuted-insert_by : (x : X) (ys : List X) → IsPermutation (x ∷ ys) (insert_by cmp x ys)
+  permuted-insert_by x [] = IsPermutation-refl (x ∷ [])
+  permuted-insert_by x (y ∷ ys) =
+      elim (is_lt (cmp x y)) as (λ b. IsPermutation (x ∷ y ∷ ys) (if b then x ∷ y ∷ ys else y ∷ insert_by cmp x ys)) [
         | true ↦ IsPermutation-refl (x ∷ y ∷ ys)
-        | false ↦ IsPermutation-trans (x ∷ y ∷ ys) (y ∷ x ∷ ys) (y ∷ put_in cmp x ys) (IsPermutation-middle (x ∷ []) y ys) (IsPermutation-cons y (x ∷ ys) (put_in cmp x ys) (permuted-put_in x ys))
+        | false ↦ IsPermutation-trans (x ∷ y ∷ ys) (y ∷ x ∷ ys) (y ∷ insert_by cmp x ys) (IsPermutation-middle (x ∷ []) y ys) (IsPermutation-cons y (x ∷ ys) (insert_by cmp x ys) (permuted-insert_by x ys))
       ]
 
-  permuted_from : (zs xs : List X) → IsPermutation (xs ++ zs) (fold (λ sorted x. put_in cmp x sorted) zs xs)
+  permuted_from : (zs xs : List X) → IsPermutation (xs ++ zs) (fold (λ sorted x. insert_by cmp x sorted) zs xs)
   permuted_from zs [] = IsPermutation-refl zs
   permuted_from zs (x ∷ xs) =
-      IsPermutation-trans (x ∷ (xs ++ zs)) (xs ++ put_in cmp x zs) (fold (λ sorted x. put_in cmp x sorted) (put_in cmp x zs) xs)
-      (IsPermutation-trans (x ∷ (xs ++ zs)) (xs ++ x ∷ zs) (xs ++ put_in cmp x zs) (IsPermutation-sym (xs ++ x ∷ zs) (x ∷ (xs ++ zs)) (IsPermutation-middle xs x zs)) (IsPermutation-append_right xs (x ∷ zs) (put_in cmp x zs) (permuted-put_in x zs)))
-      (permuted_from (put_in cmp x zs) xs)
+      IsPermutation-trans (x ∷ (xs ++ zs)) (xs ++ insert_by cmp x zs) (fold (λ sorted x. insert_by cmp x sorted) (insert_by cmp x zs) xs)
+      (IsPermutation-trans (x ∷ (xs ++ zs)) (xs ++ x ∷ zs) (xs ++ insert_by cmp x zs) (IsPermutation-sym (xs ++ x ∷ zs) (x ∷ (xs ++ zs)) (IsPermutation-middle xs x zs)) (IsPermutation-append_right xs (x ∷ zs) (insert_by cmp x zs) (permuted-insert_by x zs)))
+      (permuted_from (insert_by cmp x zs) xs)
 
   pub permuted : (xs : List X) → IsPermutation xs (sorted_by cmp xs)
   permuted xs = subst (λ ys. IsPermutation ys (sorted_by cmp xs)) (append-nil xs) (permuted_from [] xs)

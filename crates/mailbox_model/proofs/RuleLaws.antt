@@ -13,12 +13,12 @@ use Rattle.mailbox_model.specs.declared.change.Fault.{Fault}
 use Rattle.mailbox_model.specs.declared.change.Change.{Change}
 use Rattle.mailbox_model.specs.declared.change.Change.TheVariants.{Arrive, ArriveFault, Expunge, Seen, At}
 use Rattle.mailbox_model.specs.Lists.{Bytes}
-use Rattle.mailbox_model.specs.Mailbox.{Mailbox, Item, empty_mailbox, arrival, with_arrival, has_uid, marked, after, after_all, mail_weight, weights, lacks_room, full, most_items, most_weight, end_of_uids, RiseBelow, IsItem, IsMailbox, IsValidChange, AreAllowed}
-use Rattle.mailbox_model.proofs.PutLaws.{All-filter}
+use Rattle.mailbox_model.specs.Mailbox.{Mailbox, Item, empty_mailbox, arrival, with_arrival, has_uid, marked, after, after_all, mail_weight, weights, lacks_room, full, max_items, max_total_weight, end_of_uids, RiseBelow, IsItem, IsMailbox, IsValidChange, AreAllowed}
+use Rattle.lists.proofs.Inserts.{All-filter}
 
 pub empty_keeps : (me : Bytes) → IsMailbox (empty_mailbox me)
 empty_keeps me =
-    record { moment = omega arith; uids = omega arith; next = omega arith; each = tt; few = omega arith; light = omega arith }
+    record { moment = omega arith; uids = omega arith; next = omega arith; each = tt; count_fits = omega arith; weight_fits = omega arith }
 
 -- ---- an arrival
 
@@ -35,17 +35,17 @@ each_push now (x ∷ items) item a h = (a.0, each_push now items item a.1 h)
 arrival_keeps : (m : Mailbox) (mail : Result Card Fault) → IsMailbox m → lacks_room m (mail_weight mail) ≡ false
     → IfOk mail (λ card. IsTrue (is_valid card)) → IsMailbox (with_arrival m mail)
 arrival_keeps m mail k room valid =
-    let crowded = nat_le most_items (length m.items) in
+    let crowded = nat_le max_items (length m.items) in
     let last = nat_le end_of_uids m.next_uid in
-    let parts = or_parts (crowded || last) (nat_lt most_weight (weights m.items + mail_weight mail)) room in
+    let parts = or_parts (crowded || last) (nat_lt max_total_weight (weights m.items + mail_weight mail)) room in
     let first = or_parts crowded last parts.0 in
     record {
       moment = k.moment;
       uids = rise_push 1 m.next_uid m.items (arrival m mail) k.uids refl;
       next = omega (arith, leb-false end_of_uids m.next_uid first.1);
       each = each_push m.now m.items (arrival m mail) k.each (record { arrived = omega arith; seen_after = tt; seen_by = tt; valid = valid });
-      few = omega (arith, leb-false most_items (length m.items) first.0, length-append m.items (arrival m mail ∷ []));
-      light = omega (arith, ltb-false most_weight (weights m.items + mail_weight mail) parts.1, sum_by_push (λ item. mail_weight item.mail) m.items (arrival m mail));
+      count_fits = omega (arith, leb-false max_items (length m.items) first.0, length-append m.items (arrival m mail ∷ []));
+      weight_fits = omega (arith, ltb-false max_total_weight (weights m.items + mail_weight mail) parts.1, sum_by_push (λ item. mail_weight item.mail) m.items (arrival m mail));
     }
 
 -- ---- an expunge
@@ -84,8 +84,8 @@ expunge_keeps m uid k =
       uids = rise_filter p 1 1 m.next_uid m.items (omega arith) k.uids;
       next = k.next;
       each = All-filter (IsItem m.now) p m.items k.each;
-      few = omega (arith, k.few, length_filter p m.items);
-      light = omega (arith, k.light, weights_filter p m.items);
+      count_fits = omega (arith, k.count_fits, length_filter p m.items);
+      weight_fits = omega (arith, k.weight_fits, weights_filter p m.items);
     }
 
 -- ---- a seen mark
@@ -128,8 +128,8 @@ seen_keeps m uid k =
       uids = rise_marked uid m.now 1 m.next_uid m.items k.uids;
       next = k.next;
       each = each_marked uid m.now m.items k.each;
-      few = omega (arith, k.few, length-map m.items (marked uid m.now));
-      light = omega (arith, k.light, weights_marked uid m.now m.items);
+      count_fits = omega (arith, k.count_fits, length-map m.items (marked uid m.now));
+      weight_fits = omega (arith, k.weight_fits, weights_marked uid m.now m.items);
     }
 
 -- ---- a moment
@@ -154,8 +154,8 @@ at_keeps m moment h k =
       uids = k.uids;
       next = k.next;
       each = each_later m.now (max m.now moment) m.items (omega arith) k.each;
-      few = k.few;
-      light = k.light;
+      count_fits = k.count_fits;
+      weight_fits = k.weight_fits;
     }
 
 pub change_keeps : (m : Mailbox) (change : Change) → IsMailbox m → IsValidChange change → full m change ≡ false

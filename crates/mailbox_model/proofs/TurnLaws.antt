@@ -7,23 +7,23 @@ use Rattle.std.specs.Ordering.{is_lt}
 use Rattle.std.specs.Cmp.Lexicographic.{bytes_decides}
 use Rattle.std.proofs.lemmas.Bool.{both_ways, eqb-true, ltb-true, ltb-false, and_parts}
 use Rattle.std.proofs.lemmas.List.Elements.{All-contains_itself, recursion_from_All}
-use Rattle.kit.specs.Distinct.{firsts}
+use Rattle.lists.specs.Distinct.{firsts}
 use Rattle.card_type.specs.declared.card.Card.{Card}
 use Rattle.mailbox_model.specs.declared.change.Change.{Change}
 use Rattle.mailbox_model.specs.declared.change.Change.TheVariants.{Arrive, ArriveFault, Expunge, Seen, At}
 use Rattle.mailbox_model.specs.declared.turn.Turn.TheVariants.{Nothing, Replace, Marked, Moved}
-use Rattle.mailbox_model.specs.Lists.{put_in}
+use Rattle.lists.specs.Sorted.{insert_by}
 use Rattle.mailbox_model.specs.Mailbox.{Mailbox, after, RiseBelow}
 use Rattle.mailbox_model.specs.Present.{Mail, spot, mail_cmp, mails, same_id, present}
 use Rattle.mailbox_model.specs.Turns.{arriving, has_mail_uid, is_unseen, seen_at, turn, turn_in, turn_to, turn_out, Turns, MovesClock, IsTurn}
-use Rattle.kit.proofs.Distinct.{IsDistinct-firsts}
-use Rattle.mailbox_model.proofs.OrderLaws.{Rising, Rising-filter, Rising-firsts, firsts-insert, is_behind, unlike}
-use Rattle.mailbox_model.proofs.PutLaws.{None_of, none_found, none_from_found, none_filtered, filter_none, All-filter, All-firsts, found_all, found_passes, find-firsts, find-put_in, OneAtMost, one_at_most, put_back, behind_none, behind_first}
+use Rattle.lists.proofs.DistinctLaws.{IsDistinct-firsts}
+use Rattle.lists.proofs.Rising.{Rising, Rising-filter, Rising-firsts, firsts-insert_by, is_preceded, unlike}
+use Rattle.lists.proofs.Inserts.{None_of, none_found, none_from_found, none_filtered, filter_none, All-filter, All-firsts, found_all, found_passes, find-firsts, find-insert_by, OneAtMost, one_at_most, put_back, preceded_none, preceded_first}
 use Rattle.mailbox_model.proofs.MailLaws.{is_below, is_never_back, is_alike, same_uid, uid_alike, line_of, mails-arrive, mails-fault, mails-expunge, mails-seen}
 
--- what was there with the id of y, and may stand before it or after it
+-- what is present of all and y: y among the others, unless one with its id precedes it
 abbrev displaced : Mail → List Mail → List Mail → List Mail
-displaced y all ps = if is_behind same_id mail_cmp y all then ps else put_in mail_cmp y (unlike same_id mail_cmp y ps)
+displaced y all ps = if is_preceded same_id mail_cmp y all then ps else insert_by mail_cmp y (unlike same_id mail_cmp y ps)
 
 same_for : (y x z : Mail) → same_id x z ≡ true → same_id y x ≡ same_id y z
 same_for y x z e = is_alike.turn y x ∙ is_alike.alike x z y e ∙ is_alike.turn z y
@@ -32,9 +32,9 @@ same_for y x z e = is_alike.turn y x ∙ is_alike.alike x z y e ∙ is_alike.tur
 found_both : (y : Mail) (zs : List Mail) → find (same_id y) (firsts same_id zs) ≡ find (same_id y) zs
 found_both y zs = find-firsts same_id (same_id y) (same_for y) zs
 
--- the present ones with u put back where one with the id of y is found
+-- the present ones with u inserted again where one with the id of y is found
 taken : (y u : Mail) (zs : List Mail) → Rising mail_cmp zs → find (same_id y) (firsts same_id zs) ≡ Some u
-    → firsts same_id zs ≡ put_in mail_cmp u (unlike same_id mail_cmp y (firsts same_id zs))
+    → firsts same_id zs ≡ insert_by mail_cmp u (unlike same_id mail_cmp y (firsts same_id zs))
 taken y u zs r e =
     put_back mail_cmp is_below is_never_back (same_id y) u (firsts same_id zs) (Rising-firsts same_id mail_cmp zs r)
     (one_at_most mail_cmp same_id is_alike (same_id y) (λ x z h. sym (is_alike.alike y x z h)) (firsts same_id zs) (IsDistinct-firsts same_id zs)) e
@@ -48,15 +48,15 @@ arrived : (m : Mailbox) (card : Card) → RiseBelow 1 m.items m.next_uid
     → present (after m (Arrive card)) ≡ displaced (arriving m card) (mails m) (present m)
 arrived m card u =
     ap (firsts same_id) (mails-arrive m card)
-    ∙ firsts-insert same_id mail_cmp is_alike is_below (arriving m card) (mails m) (line_of m u).rising
+    ∙ firsts-insert_by same_id mail_cmp is_alike is_below (arriving m card) (mails m) (line_of m u).rising
 
 pub arrive_turn : (m : Mailbox) (card : Card) → RiseBelow 1 m.items m.next_uid → (o : Option Mail)
     → find (same_id (arriving m card)) (present m) ≡ o →
     Turns (present m) (present (after m (Arrive card))) m.now (turn_in (arriving m card) o)
 arrive_turn m card u None e =
     let y = arriving m card in
-    let front : is_behind same_id mail_cmp y (mails m) ≡ false = behind_none mail_cmp is_below is_never_back same_id y (mails m) (none_from_found (same_id y) (mails m) (sym (found_both y (mails m)) ∙ e)) in
-    (y, refl, arrived m card u ∙ rw front (ap (put_in mail_cmp y) (none_filtered (same_id y) (present m) (none_from_found (same_id y) (present m) e))))
+    let first : is_preceded same_id mail_cmp y (mails m) ≡ false = preceded_none mail_cmp is_below is_never_back same_id y (mails m) (none_from_found (same_id y) (mails m) (sym (found_both y (mails m)) ∙ e)) in
+    (y, refl, arrived m card u ∙ rw first (ap (insert_by mail_cmp y) (none_filtered (same_id y) (present m) (none_from_found (same_id y) (present m) e))))
 arrive_turn m card u (Some x) e =
     elim (is_lt (mail_cmp y x)) as (λ b. is_lt (mail_cmp y x) ≡ b → Turns (present m) (present (after m (Arrive card))) m.now (if b then Replace (spot x) (spot y) else Nothing)) [
       | true ↦ λ h. (
@@ -69,18 +69,18 @@ arrive_turn m card u (Some x) e =
           id = sym (same_bytes y x (found_passes (same_id y) (present m) x e));
           others = unlike same_id mail_cmp y (present m);
           first = taken y x (mails m) (line_of m u).rising e;
-          second = arrived m card u ∙ rw (behind ∙ ap not h) refl;
+          second = arrived m card u ∙ rw (after_x ∙ ap not h) refl;
         },
       )
-      | false ↦ λ h. arrived m card u ∙ rw (behind ∙ ap not h) refl
+      | false ↦ λ h. arrived m card u ∙ rw (after_x ∙ ap not h) refl
     ] refl
   where
     y : Mail
     y = arriving m card
 
-    behind : is_behind same_id mail_cmp y (mails m) ≡ not (is_lt (mail_cmp y x))
-    behind =
-        behind_first mail_cmp is_below is_never_back same_id y x (mails m) (line_of m u).rising (sym (found_both y (mails m)) ∙ e)
+    after_x : is_preceded same_id mail_cmp y (mails m) ≡ not (is_lt (mail_cmp y x))
+    after_x =
+        preceded_first mail_cmp is_below is_never_back same_id y x (mails m) (line_of m u).rising (sym (found_both y (mails m)) ∙ e)
 
 -- ---- an expunge
 
@@ -119,11 +119,11 @@ module _ (m : Mailbox) (uid : ℕ) (u : RiseBelow 1 m.items m.next_uid) where
 
     before : present m ≡ displaced y (mails n) (present n)
     before =
-        ap (firsts same_id) (put_back mail_cmp is_below is_never_back (has_mail_uid uid) y (mails m) (line_of m u).rising uid_at_most_once e ∙ ap (put_in mail_cmp y) (sym (mails-expunge m uid u)))
-        ∙ firsts-insert same_id mail_cmp is_alike is_below y (mails n) rising_left
+        ap (firsts same_id) (put_back mail_cmp is_below is_never_back (has_mail_uid uid) y (mails m) (line_of m u).rising uid_at_most_once e ∙ ap (insert_by mail_cmp y) (sym (mails-expunge m uid u)))
+        ∙ firsts-insert_by same_id mail_cmp is_alike is_below y (mails n) rising_left
 
-    -- it stood behind one with its id
-    hidden : is_behind same_id mail_cmp y (mails n) ≡ true
+    -- it came after one with its id
+    hidden : is_preceded same_id mail_cmp y (mails n) ≡ true
         → Turns (present m) (present n) m.now (turn_out (find (has_mail_uid uid) (present m)) (present n))
     hidden b =
         let same : present m ≡ present n = before ∙ rw b refl in
@@ -131,19 +131,19 @@ module _ (m : Mailbox) (uid : ℕ) (u : RiseBelow 1 m.items m.next_uid) where
         (sym (ap (find (has_mail_uid uid)) same ∙ none_found (has_mail_uid uid) (present n) gone_present)) (sym same)
 
     -- it was present, and the next one with its id is now, if there is one
-    shown : is_behind same_id mail_cmp y (mails n) ≡ false
+    was_present : is_preceded same_id mail_cmp y (mails n) ≡ false
         → Turns (present m) (present n) m.now (turn_out (find (has_mail_uid uid) (present m)) (present n))
-    shown b =
-        let was : present m ≡ put_in mail_cmp y (unlike same_id mail_cmp y (present n)) = before ∙ rw b refl in
+    was_present b =
+        let was : present m ≡ insert_by mail_cmp y (unlike same_id mail_cmp y (present n)) = before ∙ rw b refl in
         let here : find (has_mail_uid uid) (present m) ≡ Some y =
         ap (find (has_mail_uid uid)) was
-        ∙ find-put_in mail_cmp (has_mail_uid uid) y (unlike same_id mail_cmp y (present n)) its_uid (All-filter (λ z. has_mail_uid uid z ≡ false) (λ z. not (same_id y z)) (present n) gone_present) in
+        ∙ find-insert_by mail_cmp (has_mail_uid uid) y (unlike same_id mail_cmp y (present n)) its_uid (All-filter (λ z. has_mail_uid uid z ≡ false) (λ z. not (same_id y z)) (present n) gone_present) in
         subst (λ o. Turns (present m) (present n) m.now (turn_out o (present n))) (sym here) (next was (find (same_id y) (present n)) refl)
       where
-        next : present m ≡ put_in mail_cmp y (unlike same_id mail_cmp y (present n)) → (o : Option Mail)
+        next : present m ≡ insert_by mail_cmp y (unlike same_id mail_cmp y (present n)) → (o : Option Mail)
             → find (same_id y) (present n) ≡ o → Turns (present m) (present n) m.now (turn_to y o)
         next was None k =
-            (y, refl, was ∙ ap (put_in mail_cmp y) (none_filtered (same_id y) (present n) (none_from_found (same_id y) (present n) k)))
+            (y, refl, was ∙ ap (insert_by mail_cmp y) (none_filtered (same_id y) (present n) (none_from_found (same_id y) (present n) k)))
         next was (Some z) k = (
           y,
           z,
@@ -165,9 +165,9 @@ module _ (m : Mailbox) (uid : ℕ) (u : RiseBelow 1 m.items m.next_uid) where
           → Turns (present m) (present n) m.now (turn m (Expunge uid))
       by None e = none_left (none_from_found (has_mail_uid uid) (mails m) e)
       by (Some y) e =
-          elim (is_behind same_id mail_cmp y (mails n)) as (λ b. is_behind same_id mail_cmp y (mails n) ≡ b → Turns (present m) (present n) m.now (turn m (Expunge uid))) [
+          elim (is_preceded same_id mail_cmp y (mails n)) as (λ b. is_preceded same_id mail_cmp y (mails n) ≡ b → Turns (present m) (present n) m.now (turn m (Expunge uid))) [
             | true ↦ λ b. hidden y e b
-            | false ↦ λ b. shown y e b
+            | false ↦ λ b. was_present y e b
           ] refl
 
 -- ---- a seen mark

@@ -24,9 +24,9 @@ box changes = after_all (empty_mailbox me) changes
 abbrev pub noon : Change
 noon = At 1714564800
 
--- a place of the id m1@x.org in mail order
-abbrev place : ℕ → ℕ → Spot
-place date uid = record { date = date; id = codes "m1@x.org"; uid = uid }
+-- a spot of the id m1@x.org in mail order
+abbrev spot : ℕ → ℕ → Spot
+spot date uid = record { date = date; id = codes "m1@x.org"; uid = uid }
 
 one_mail : answer (box (noon ∷ Arrive M1 ∷ [])) AllChats
     ≡ Some (codes "single:bob@x.org | Bob | fresh 1 | 2024-05-01 10:00 | Hi\n")
@@ -284,19 +284,19 @@ no_app : answer (box (noon ∷ Arrive M1 ∷ [])) (AllUpdates (codes "m1@x.org")
 no_app = refl
 
 -- how changes move the present cards: of one id the first in mail order is there
-turn_in : turn (box (noon ∷ [])) (Arrive M1) ≡ Add (place (at 10 0) 1)
+turn_in : turn (box (noon ∷ [])) (Arrive M1) ≡ Add (spot (at 10 0) 1)
 turn_in = refl
 
-turn_earlier : turn (box (noon ∷ Arrive M1 ∷ [])) (Arrive M2) ≡ Replace (place (at 10 0) 1) (place (at 9 0) 2)
+turn_earlier : turn (box (noon ∷ Arrive M1 ∷ [])) (Arrive M2) ≡ Replace (spot (at 10 0) 1) (spot (at 9 0) 2)
 turn_earlier = refl
 
 turn_later : turn (box (noon ∷ Arrive M2 ∷ [])) (Arrive M1) ≡ Nothing
 turn_later = refl
 
-turn_gives_way : turn (box (noon ∷ Arrive M1 ∷ Arrive M2 ∷ [])) (Expunge 2) ≡ Replace (place (at 9 0) 2) (place (at 10 0) 1)
+turn_gives_way : turn (box (noon ∷ Arrive M1 ∷ Arrive M2 ∷ [])) (Expunge 2) ≡ Replace (spot (at 9 0) 2) (spot (at 10 0) 1)
 turn_gives_way = refl
 
-turn_out : turn (box (noon ∷ Arrive M1 ∷ [])) (Expunge 1) ≡ Remove (place (at 10 0) 1)
+turn_out : turn (box (noon ∷ Arrive M1 ∷ [])) (Expunge 1) ≡ Remove (spot (at 10 0) 1)
 turn_out = refl
 
 turn_out_unknown : turn (box (noon ∷ Arrive M1 ∷ [])) (Expunge 2) ≡ Nothing

@@ -1,4 +1,4 @@
--- The body of a row: what is said in it, on one line.
+-- The body of a row: its text, on one line.
 use Rattle.std.specs.Prelude.{Bool, not, ◌||◌, if◌then◌else◌, [], ◌++◌, codes}
 use Rattle.card_type.specs.Kinds.{has_some}
 use Rattle.mailbox_model.specs.declared.row.Row.{Row}
@@ -8,12 +8,12 @@ abbrev pub where_true : Bool → Bytes → Bytes
 where_true test text = if test then text else []
 
 -- the subject of a mail that no chat program sent, in brackets, and then the text
-abbrev pub said : Row → Bytes
-said r =
+abbrev pub text_with_subject : Row → Bytes
+text_with_subject r =
     if r.chat || not (has_some r.subject) then r.text
     else codes "[" ++ r.subject ++ codes "]" ++ where_true (has_some r.text) (codes " " ++ r.text)
 
 abbrev pub body : Row → Bytes
 body r =
-    let text = said r ++ where_true r.cut (codes " [cut]") ++ where_true r.edited (codes " [edited]") in
+    let text = text_with_subject r ++ where_true r.cut (codes " [cut]") ++ where_true r.edited (codes " [edited]") in
     if has_some text then text else codes "(no text)"

@@ -10,7 +10,8 @@ use Rattle.mailbox_model.specs.declared.change.Fault.{Fault}
 use Rattle.mailbox_model.specs.declared.list.ListRow.{ListRow}
 use Rattle.mailbox_model.specs.declared.list.FaultRow.{FaultRow}
 use Rattle.mailbox_model.specs.declared.list.ListPage.{ListPage}
-use Rattle.mailbox_model.specs.Lists.{sorted_by, last_of}
+use Rattle.lists.specs.Sorted.{sorted_by}
+use Rattle.mailbox_model.specs.Lists.{last_of}
 use Rattle.mailbox_model.specs.Mailbox.{Mailbox}
 use Rattle.mailbox_model.specs.Rows.{is_fresh}
 use Rattle.mailbox_model.specs.Bodies.{body}

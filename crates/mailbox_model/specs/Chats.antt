@@ -3,7 +3,7 @@ use Rattle.std.specs.Prelude.{◌≡◌, Bool, false, Option, Some, None, List, 
 use Rattle.std.specs.List.{list_any}
 use Rattle.std.specs.Option.{option_map_or, option_or}
 use Rattle.std.specs.Str.{bytes_eq}
-use Rattle.kit.specs.Distinct.{each_once}
+use Rattle.lists.specs.Distinct.{each_once}
 use Rattle.kit.specs.Options.{◌>>=◌}
 use Rattle.card_type.specs.declared.card.Card.{Card}
 use Rattle.card_type.specs.declared.key.ChatKey.{ChatKey}
@@ -101,7 +101,7 @@ has_cites ts id = list_any (λ e. bytes_eq id e.spot.id) ts
 abbrev pub parent_among : List Cites → Cites → Option Bytes
 parent_among earlier t = find (has_cites earlier) t.candidates
 
--- each of these has the chat that it and the chat of its parent tell; the earlier ones stand before them
+-- each of these has the chat that follows from it and from the chat of its parent; the earlier ones precede them
 abbrev pub KeepRule : (Bytes → ChatKey) → List Cites → List Cites → Type 0
 KeepRule chat_of earlier [] = Unit {0}
 KeepRule chat_of earlier (t ∷ ts) =

@@ -3,15 +3,16 @@ use Rattle.std.specs.Prelude.{Bool, ◌&&◌, Option, unwrap_or, option_map, Lis
 use Rattle.std.specs.Str.{bytes_eq}
 use Rattle.std.specs.Ordering.{nat_cmp}
 use Rattle.std.specs.Cmp.Lexicographic.{slice_cmp}
-use Rattle.kit.specs.Distinct.{each_once}
+use Rattle.lists.specs.Distinct.{each_once}
 use Rattle.card_type.specs.Kinds.{has_some}
 use Rattle.mailbox_model.specs.declared.contact.ContactRow.{ContactRow}
-use Rattle.mailbox_model.specs.Lists.{Bytes, without, sorted_by, last_of}
+use Rattle.lists.specs.Sorted.{sorted_by}
+use Rattle.mailbox_model.specs.Lists.{Bytes, without, last_of}
 use Rattle.mailbox_model.specs.Mailbox.{Mailbox}
 use Rattle.mailbox_model.specs.Present.{Mail, present}
 use Rattle.mailbox_model.specs.Chats.{people}
 
--- whether a mail tells the name of an address
+-- whether a mail gives the name of an address
 abbrev pub names_sender : Bytes → Mail → Bool
 names_sender addr mail = bytes_eq mail.card.from addr && has_some mail.card.from_name
 

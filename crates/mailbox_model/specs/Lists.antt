@@ -1,9 +1,7 @@
 -- Words on lists.
-use Rattle.std.specs.Prelude.{ℕ, not, if◌then◌else◌, Option, Some, None, List, [], ◌∷◌, filter, fold}
+use Rattle.std.specs.Prelude.{ℕ, not, Option, Some, None, List, [], ◌∷◌, filter}
 use Rattle.std.specs.Option.{option_or}
 use Rattle.std.specs.Str.{bytes_eq}
-use Rattle.std.specs.declared.cmp.Ordering.{Ordering}
-use Rattle.std.specs.Ordering.{is_lt}
 
 -- ids, addresses and texts
 abbrev pub Bytes : Type 0
@@ -12,15 +10,6 @@ Bytes = List ℕ
 -- all but this one
 abbrev pub without : Bytes → List Bytes → List Bytes
 without x xs = filter (λ y. not (bytes_eq x y)) xs
-
--- x, before the first element that it is below
-abbrev pub put_in : {X : Type 0} → (X → X → Ordering) → X → List X → List X
-put_in cmp x [] = x ∷ []
-put_in cmp x (y ∷ ys) = if is_lt (cmp x y) then x ∷ y ∷ ys else y ∷ put_in cmp x ys
-
--- each put in, one after the other
-abbrev pub sorted_by : {X : Type 0} → (X → X → Ordering) → List X → List X
-sorted_by cmp xs = fold (λ sorted x. put_in cmp x sorted) [] xs
 
 abbrev pub last_of : {X : Type 0} → List X → Option X
 last_of [] = None

@@ -21,7 +21,7 @@ pub record Item : Type 0 where
   pub seen : Option ℕ
   pub mail : Result Card Fault
 
--- what is told of an item without its card
+-- what an item holds, without its card
 abbrev pub held : Result Card Fault → Held
 held (Ok card) = is_held.Card
 held (Err fault) = is_held.Fault fault
@@ -67,11 +67,11 @@ after_all m (change ∷ changes) = after_all (after m change) changes
 
 -- ---- limits
 
-abbrev pub most_items : ℕ
-most_items = 65536
+abbrev pub max_items : ℕ
+max_items = 65536
 
-abbrev pub most_weight : ℕ
-most_weight = 268435456
+abbrev pub max_total_weight : ℕ
+max_total_weight = 268435456
 
 -- no mail has this uid
 abbrev pub end_of_uids : ℕ
@@ -85,7 +85,7 @@ abbrev pub weights : List Item → ℕ
 weights items = sum_by (λ item. mail_weight item.mail) items
 
 abbrev pub lacks_room : Mailbox → ℕ → Bool
-lacks_room m more = nat_le most_items (length m.items) || nat_le end_of_uids m.next_uid || nat_lt most_weight (weights m.items + more)
+lacks_room m more = nat_le max_items (length m.items) || nat_le end_of_uids m.next_uid || nat_lt max_total_weight (weights m.items + more)
 
 -- only an arrival is ever refused
 abbrev pub full : Mailbox → Change → Bool
@@ -114,8 +114,8 @@ pub record IsMailbox (m : Mailbox) : Type 0 where
   pub uids : RiseBelow 1 m.items m.next_uid
   pub next : m.next_uid ≤ end_of_uids
   pub each : AllByRecursion (IsItem m.now) m.items
-  pub few : length m.items ≤ most_items
-  pub light : weights m.items ≤ most_weight
+  pub count_fits : length m.items ≤ max_items
+  pub weight_fits : weights m.items ≤ max_total_weight
 
 abbrev pub IsValidChange : Change → Type 0
 IsValidChange (Arrive card) = IsTrue (is_valid card)

@@ -9,12 +9,13 @@ use Rattle.mailbox_model.specs.Mailbox.{Mailbox}
 use Rattle.mailbox_model.specs.Contacts.{contact_name}
 use Rattle.mailbox_model.specs.Rosters.{roster}
 
-abbrev pub told_name : Mailbox → ChatKey → Bytes
-told_name m SelfChat = codes "self"
-told_name m (Single a) = contact_name m a
-told_name m (Group g) = (roster m (Group g)).name
-told_name m (Thread i) = (roster m (Thread i)).name
+-- empty where a group or thread has none
+abbrev pub name_or_empty : Mailbox → ChatKey → Bytes
+name_or_empty m SelfChat = codes "self"
+name_or_empty m (Single a) = contact_name m a
+name_or_empty m (Group g) = (roster m (Group g)).name
+name_or_empty m (Thread i) = (roster m (Thread i)).name
 
 -- an empty name gives way to the text of the key
 abbrev pub name : Mailbox → ChatKey → Bytes
-name m key = let told = told_name m key in if has_some told then told else key_text key
+name m key = let text = name_or_empty m key in if has_some text then text else key_text key

@@ -1,7 +1,7 @@
 -- The page of a chat.
 use Rattle.std.specs.Prelude.{if◌then◌else◌, Option, Some, None, find, filter_map, map, List}
 use Rattle.std.specs.List.{list_any}
-use Rattle.kit.specs.Distinct.{firsts}
+use Rattle.lists.specs.Distinct.{firsts}
 use Rattle.kit.specs.Options.{◌>>=◌}
 use Rattle.card_type.specs.declared.key.ChatKey.{ChatKey}
 use Rattle.card_type.specs.Keys.{key_eq}

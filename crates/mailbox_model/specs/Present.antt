@@ -4,20 +4,21 @@ use Rattle.std.specs.Option.{option_map_or}
 use Rattle.std.specs.Str.{bytes_eq}
 use Rattle.std.specs.declared.cmp.Ordering.{Ordering}
 use Rattle.std.specs.Ordering.{on}
-use Rattle.kit.specs.Distinct.{firsts}
+use Rattle.lists.specs.Distinct.{firsts}
 use Rattle.card_type.specs.declared.card.Card.{Card}
 use Rattle.card_type.specs.declared.spot.Spot.{Spot}
 use Rattle.card_type.specs.Kinds.{kind_of, is_content}
 use Rattle.card_type.specs.Spots.{spot_cmp}
 use Rattle.mailbox_model.specs.declared.change.Fault.{Fault}
-use Rattle.mailbox_model.specs.Lists.{Bytes, sorted_by}
+use Rattle.lists.specs.Sorted.{sorted_by}
+use Rattle.mailbox_model.specs.Lists.{Bytes}
 use Rattle.mailbox_model.specs.Mailbox.{Mailbox, Item}
 
 -- the lesser of the date and the arrival, and the arrival where there is no date
 abbrev pub effective_date : Option ℕ → ℕ → ℕ
 effective_date date arrival = option_map_or (λ d. min d arrival) date arrival
 
--- a card, with what the mailbox tells of it: its effective date, its uid, and when it was seen
+-- a card, with what the mailbox knows of it: its effective date, its uid, and when it was seen
 pub record Mail : Type 0 where
   pub date : ℕ
   pub uid : ℕ
@@ -34,7 +35,7 @@ mail_by item (Err fault) = None
 abbrev pub mail_of : Item → Option Mail
 mail_of item = mail_by item item.mail
 
--- its place in mail order
+-- its spot in mail order
 abbrev pub spot : Mail → Spot
 spot mail = record { date = mail.date; id = mail.card.id; uid = mail.uid }
 

@@ -1,7 +1,7 @@
 -- Who is in a chat, how a group or thread is called, and when its mails vanish.
 use Rattle.std.specs.Prelude.{ℕ, Bool, true, false, not, ◌&&◌, ◌||◌, if◌then◌else◌, is_some, List, [], ◌∷◌, ◌++◌, map, fold}
 use Rattle.std.specs.Option.{option_map_or, option_to_list}
-use Rattle.kit.specs.Distinct.{each_once}
+use Rattle.lists.specs.Distinct.{each_once}
 use Rattle.card_type.specs.declared.card.Card.{Card}
 use Rattle.card_type.specs.declared.key.ChatKey.{ChatKey}
 use Rattle.card_type.specs.declared.key.ChatKey.TheVariants.{SelfChat, Single, Group, Thread}
@@ -33,9 +33,9 @@ changes_members c = is_some c.added || is_some c.removed
 abbrev pub changes_name : Card → Bool
 changes_name c = c.renamed && has_some c.group_name
 
--- a card of a member tells who is in, the name and the timer
-abbrev pub group_told : Roster → Card → Roster
-group_told r c =
+-- a card of a member says who is in, the name and the timer
+abbrev pub group_after_member : Roster → Card → Roster
+group_after_member r c =
     record {
       begun = true;
       members = if changes_members c then listed c else r.members;
@@ -47,7 +47,7 @@ group_told r c =
 abbrev pub group_after : Roster → Card → Roster
 group_after r c =
     if not r.begun then group_begun c
-    else if is_among r.members c.from then group_told r c
+    else if is_among r.members c.from then group_after_member r c
     else r
 
 -- ---- other chats

@@ -3,7 +3,7 @@ use Rattle.std.specs.Prelude.{ℕ, ◌+◌, Bool, true, false, ◌||◌, nat_lt,
 use Rattle.std.specs.List.{enumerate_from}
 use Rattle.std.specs.Option.{option_map_or}
 use Rattle.std.specs.Str.{bytes_eq}
-use Rattle.kit.specs.Distinct.{firsts}
+use Rattle.lists.specs.Distinct.{firsts}
 use Rattle.card_type.specs.declared.card.Card.{Card}
 use Rattle.card_type.specs.declared.card.Update.{Update}
 use Rattle.card_type.specs.declared.effect.Effect.{Effect}
@@ -59,9 +59,9 @@ is_expired m t = option_map_or (λ end. nat_le end m.now) (expiry m.me t) false
 abbrev pub mark_of : Bytes → Mail → Mark
 mark_of me t = if is_sent me t.card then Out else if is_some t.seen then Seen else New
 
--- the card that tells its text and whether that is cut: the last edit, else its own
-abbrev pub spoken : Option Mail → Card → Card
-spoken edit t = option_map_or (λ e. e.card) edit t
+-- the card that has its text, which may be cut: the last edit, else its own
+abbrev pub text_card : Option Mail → Card → Card
+text_card edit t = option_map_or (λ e. e.card) edit t
 
 abbrev pub same_sender : Mail → Mail → Bool
 same_sender a b = bytes_eq a.card.from b.card.from
@@ -70,7 +70,7 @@ same_sender a b = bytes_eq a.card.from b.card.from
 abbrev pub readers_by : List Mail → List (Bytes × ℕ)
 readers_by receipts = map (λ e. (e.card.from, e.date)) (firsts same_sender receipts)
 
--- the updates of a mail, each with its place from 0
+-- the updates of a mail, each with its index from 0
 abbrev pub parts_of : Mail → List (Mail × ℕ × Update)
 parts_of e = map (λ part. (e, part.0, part.1)) (enumerate_from 0 e.card.updates)
 
@@ -91,8 +91,8 @@ row_of m t =
       from = t.card.from;
       chat = t.card.chat;
       subject = t.card.subject;
-      text = (spoken edit t.card).text;
-      cut = (spoken edit t.card).cut;
+      text = (text_card edit t.card).text;
+      cut = (text_card edit t.card).cut;
       edited = is_some edit;
       mark = mark_of m.me t;
       attachments = t.card.attachments;

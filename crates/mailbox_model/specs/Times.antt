@@ -7,8 +7,8 @@ use Rattle.jiff_core.specs.Calendar.{days_in_year, days_in_month}
 abbrev pub checked_sub : ℕ → ℕ → Option ℕ
 checked_sub n k = if nat_le k n then Some (n - k) else None
 
--- Whole spans are taken off a number of days: first the span `at`, which has `length_of at` days, and then those after it.
--- The span that is not whole any more, and the days left in it. The first argument is how many spans may be taken.
+-- Whole spans are taken off a number of days: first the span `at`, which has `length_of at` days, and then those after
+-- it. The span that is not whole any more, and the days left in it. The first argument is how many spans may be taken.
 unfoldable pub span_and_rest : ℕ → (ℕ → ℕ) → ℕ → ℕ → ℕ × ℕ
 span_and_rest zero length_of at days = (at, days)
 span_and_rest (suc more) length_of at days =
@@ -20,8 +20,8 @@ pub record Civil : Type 0 where
   pub month : ℕ
   pub day : ℕ
 
--- The date so many days after 1970-01-01: whole years are taken off, and then whole months, no more of either than there
--- are days.
+-- The date so many days after 1970-01-01: whole years are taken off, and then whole months, no more of either than
+-- there are days.
 unfoldable pub civil_date : ℕ → Civil
 civil_date days =
     let in_year = span_and_rest days (λ y. days_in_year (pos y)) 1970 days in

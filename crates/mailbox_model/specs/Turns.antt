@@ -7,13 +7,13 @@ use Rattle.mailbox_model.specs.declared.change.Change.{Change}
 use Rattle.mailbox_model.specs.declared.change.Change.TheVariants.{Arrive, ArriveFault, Expunge, Seen, At}
 use Rattle.mailbox_model.specs.declared.turn.Turn.{Turn}
 use Rattle.mailbox_model.specs.declared.turn.Turn.TheVariants.{Nothing, Add, Remove, Replace, Marked, Moved}
-use Rattle.mailbox_model.specs.Lists.{put_in}
+use Rattle.lists.specs.Sorted.{insert_by}
 use Rattle.mailbox_model.specs.Mailbox.{Mailbox, after, arrival}
 use Rattle.mailbox_model.specs.Present.{Mail, mail_with, spot, mail_cmp, same_id, present}
 
 -- ---- the turn of a change
 
--- an arrival comes in, or takes the place of a later one with its id, or stays behind an earlier one
+-- an arrival comes in, or replaces a later one with its id, or gives way to an earlier one
 abbrev pub turn_in : Mail → Option Mail → Turn
 turn_in t None = Add (spot t)
 turn_in t (Some u) = if is_lt (mail_cmp t u) then Replace (spot u) (spot t) else Nothing
@@ -46,9 +46,9 @@ turn m (At moment) = if nat_lt m.now moment then Moved moment else Nothing
 
 -- ---- what a turn says
 
--- a mail put into its place
+-- a mail inserted in mail order
 abbrev pub with_mail : Mail → List Mail → List Mail
-with_mail t ts = put_in mail_cmp t ts
+with_mail t ts = insert_by mail_cmp t ts
 
 -- the first mark counts
 abbrev pub seen_at : ℕ → ℕ → Mail → Mail
@@ -65,8 +65,8 @@ pub record IsReplaced (t u : Mail) (before after : List Mail) : Type 0 where
 -- the present cards before and after
 abbrev pub Turns : List Mail → List Mail → ℕ → Turn → Type 0
 Turns before after now Nothing = after ≡ before
-Turns before after now (Add place) = (t : Mail) × (spot t ≡ place) × (after ≡ with_mail t before)
-Turns before after now (Remove place) = (t : Mail) × (spot t ≡ place) × (before ≡ with_mail t after)
+Turns before after now (Add at) = (t : Mail) × (spot t ≡ at) × (after ≡ with_mail t before)
+Turns before after now (Remove at) = (t : Mail) × (spot t ≡ at) × (before ≡ with_mail t after)
 Turns before after now (Replace from to) = (t u : Mail) × (spot t ≡ from) × (spot u ≡ to) × IsReplaced t u before after
 Turns before after now (Marked uid) = (t : Mail) × Contains before t × (t.uid ≡ uid) × (t.seen ≡ None) × (after ≡ map (seen_at uid now) before)
 Turns before after now (Moved moment) = after ≡ before

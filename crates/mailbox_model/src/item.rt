@@ -4,7 +4,7 @@ use crate::change::Fault;
 /// What an item holds of its mail.
 #[derive(Clone, Copy, Debug, PartialEq, Eq)]
 pub enum Held {
-    /// A card, which stands elsewhere.
+    /// A card, which is kept elsewhere.
     Card,
     /// No card, for this reason.
     Fault(Fault),

@@ -1,4 +1,4 @@
-//! Laws of the definition of a mailbox and its pages. Each stands as the contract of a function that does nothing: its
+//! Laws of the definition of a mailbox and its pages. Each is the contract of a function that does nothing: its
 //! clauses speak of every mailbox and every change.
 ghost use Rattle.std.specs.Prelude.{◌≡◌, false, Some, None, List, [], ◌∷◌, ◌++◌, map, find, filter_map, option_and_then, is_some, if◌then◌else◌};
 ghost use Rattle.std.specs.List.{list_any, IsDistinct};
@@ -34,7 +34,7 @@ pub fn changes_keep_the_rules()
 /// The present cards are the first of each id in mail order.
 ///
 /// - `all`: the mails are the cards of the items, each once, in another order.
-/// - `order`: that is mail order, in which each stands strictly before all that follow it.
+/// - `order`: that is mail order, in which each comes strictly before all that follow it.
 /// - `first`: what is present of an id is the first of the mails with that id, and nothing where there is none.
 /// - `once`: no two that are present have one id.
 /// - `present`: what is present is in mail order as well.
@@ -46,16 +46,16 @@ pub fn present_is_in_order()
     ensures present { (m : Mailbox) → IsMailbox m → IsStrictlySortedBy mail_cmp (present m) }
 {}
 
-/// The turn of a change says how it moves the present cards and the moment: an arrival comes in, takes the place of a
-/// later card with its id or stays behind an earlier one, and so on for what leaves and what is seen.
+/// The turn of a change says how it moves the present cards and the moment: an arrival comes in, replaces a later card
+/// with its id or gives way to an earlier one, and so on for what leaves and what is seen.
 pub fn changes_move_the_present()
     ensures { (m : Mailbox) (change : Change) → IsMailbox m → IsTurn m (after m change) (turn m change) }
 {}
 
 /// The chats, which a fold over the cards in mail order gives, are those of the rule.
 ///
-/// - `rule`: the chat of each card is the one that it and the chat of its parent tell, where its parent is the first of
-///   its candidates that is the id of an earlier card.
+/// - `rule`: the chat of each card is the one that follows from it and from the chat of its parent, where its parent is
+///   the first of its candidates that is the id of an earlier card.
 /// - `only`: any family of chats that keeps the rule is this one.
 pub fn chats_keep_the_rule()
     ensures rule { (m : Mailbox) (earlier : List Cites) (t : Cites) (later : List Cites)
@@ -68,10 +68,10 @@ pub fn chats_keep_the_rule()
 /// The list has one row for each chat that has a card.
 ///
 /// - `rows`: its rows are those of the keys, each once, in another order.
-/// - `once`: no key stands twice.
+/// - `once`: no key is there twice.
 /// - `chats`: a key has a row exactly where a card is in its chat.
 /// - `pages`: and a key has a page exactly where it has a row.
-/// - `order`: each row stands strictly before all that follow it, by the date of the last shown row and then by key.
+/// - `order`: each row comes strictly before all that follow it, by the date of the last shown row and then by key.
 pub fn list_has_each_chat()
     ensures rows { (m : Mailbox) → IsPermutation (map (list_row m) (keys m)) (list m).rows }
     ensures once { (m : Mailbox) → IsDistinct key_eq (keys m) }
@@ -82,9 +82,9 @@ pub fn list_has_each_chat()
     ensures order { (m : Mailbox) → IsStrictlySortedBy list_cmp (list m).rows }
 {}
 
-/// A page follows from few things: where two mailboxes have alike the own address, the cards of a chat, who acts on each
-/// of them, which of them are expired, and for a chat with one other the name of that contact, the chat has one page in
-/// both.
+/// A page follows from few things: where two mailboxes have alike the own address, the cards of a chat, who acts on
+/// each of them, which of them are expired, and for a chat with one other the name of that contact, the chat has one
+/// page in both.
 pub fn page_follows_from_its_chat()
     ensures { (m n : Mailbox) (key : ChatKey) → IsChatAlike m n key → page m key ≡ page n key }
 {}

@@ -1,5 +1,5 @@
-//! What a mailbox is and what is shown of it: the values that the crates above share, and in `specs/` the one definition
-//! of the pages of a mailbox. It has no logic of its own; its functions are laws of that definition.
+//! What a mailbox is and what is shown of it: the values that the crates above share, and in `specs/` the one
+//! definition of the pages of a mailbox. It has no logic of its own; its functions are laws of that definition.
 #![tactic(auto)]
 
 mod change;

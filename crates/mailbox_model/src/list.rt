@@ -1,7 +1,8 @@
 //! The list of chats.
 use crate::change::Fault;
-use card_type::{ChatKey, Items};
+use card_type::ChatKey;
 use kit::Text;
+use lists::Items;
 
 /// One chat, as the list shows it.
 #[derive(Debug, PartialEq, Eq, Drop)]

@@ -1,7 +1,8 @@
 //! The page of a chat.
 use crate::row::Row;
-use card_type::{ChatKey, Items};
+use card_type::ChatKey;
 use kit::{Addr, Text};
+use lists::Items;
 
 /// The page of one chat.
 #[derive(Debug, Drop)]

@@ -1,6 +1,6 @@
 //! Who is in a chat.
-use card_type::Items;
 use kit::{Addr, Text};
+use lists::Items;
 
 /// What the cards of a chat say of it, taken in mail order.
 #[derive(Debug, Drop)]

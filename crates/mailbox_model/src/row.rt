@@ -1,6 +1,7 @@
 //! Cards as they are shown.
-use card_type::{Attachment, Items, Update};
+use card_type::{Attachment, Update};
 use kit::{Addr, Id, Text};
+use lists::Items;
 
 /// Whether a card was sent or received, and then whether it was seen.
 #[derive(Clone, Copy, Debug, PartialEq, Eq)]
@@ -13,14 +14,14 @@ pub enum Mark {
     Seen,
 }
 
-/// An update of an app, as the app is told it.
+/// An update of an app, as the app gets it.
 #[derive(Debug, PartialEq, Eq, Drop)]
 pub struct UpdateRow {
-    /// Its place among the updates of the app, from 1 on.
+    /// Its number among the updates of the app, from 1 on.
     pub serial: u32,
     /// The number in the mailbox of the mail that brought it.
     pub uid: u32,
-    /// Its place among the updates of that mail, from 0 on.
+    /// Its index among the updates of that mail, from 0 on.
     pub part: u32,
     /// Who sent it.
     pub from: Addr,
@@ -53,7 +54,7 @@ pub struct Row {
     pub mark: Mark,
     /// Its files, in their order.
     pub attachments: Items<Attachment>,
-    /// Who told that they read it, each once, with the effective date of their first receipt in seconds since
+    /// Who sent a receipt for it, each once, with the effective date of their first receipt in seconds since
     /// 1970-01-01 00:00:00 UTC, in mail order.
     pub readers: Items<(Addr, u64)>,
     /// Whether one of its files is an app.

@@ -1,9 +1,10 @@
 //! Cards: their kinds and effects, their weight and rules, keys of chats and spots.
 use card_type::{
-    Card, ChatKey, Effect, GroupId, Items, KeyMap, Kind, Payload, Spot, Update, effect_of,
-    is_valid, kind_of, valid_group, weight,
+    Card, ChatKey, Effect, GroupId, KeyMap, Kind, Payload, Spot, Update, effect_of, is_valid,
+    kind_of, valid_group, weight,
 };
 use kit::{Addr, Id, LAST_MOMENT, Text};
+use lists::Items;
 use std::alloc::Global;
 use std::test::Fail;
 
@@ -234,7 +235,7 @@ fn app(alloc: Global) -> Result<Card, Fail> {
     Ok(card)
 }
 
-// Cards are kept in `Items`: each exit drops each field of a card that stands alone, which takes long to prove.
+// Cards are kept in `Items`: each exit drops each field of a card that is held alone, which takes long to prove.
 
 /// An edit, a deletion, a receipt and an update, each of Bob's mail.
 fn actions_by(alloc: Global, from: &str) -> Result<Items<Card>, Fail> {

@@ -1,9 +1,9 @@
 pub mod GluedLines
-pub mod Turning
-pub mod Fronts
+pub mod Stepping
+pub mod Prefixes
 pub mod Taking
 pub mod NextMail
-pub mod Way
+pub mod Progress
 pub mod Reaching
 pub mod Answered
 pub mod Dropped

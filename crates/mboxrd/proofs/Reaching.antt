@@ -1,141 +1,143 @@
--- The mails from where a reader stands.
+-- The mails from a reader's position on.
 use Rattle.std.proofs.Common.{◌≡◌, ℕ, ◌+◌, ◌-◌, ◌≤◌, Bool, true, false, List, [], ◌∷◌, ◌++◌, length, refl, sym, ap, subst, ◌∙◌, append_assoc, arith, length-append, Option}
 use Rattle.std.proofs.lemmas.List.{append-nil}
-use Rattle.mboxrd.specs.declared.spot.Closing.TheVariants.{Front}
-use Rattle.mboxrd.specs.declared.spot.Spot.TheVariants.{Separator, Start}
-use Rattle.mboxrd.specs.Halves.{from_text}
+use Rattle.mboxrd.specs.declared.line_state.Preceding.TheVariants.{Nothing}
+use Rattle.mboxrd.specs.declared.line_state.LineState.TheVariants.{Separator, Start}
+use Rattle.mboxrd.specs.Remaining.{from_text}
 use Rattle.mboxrd.specs.Mails.{Mail, mails_from}
-use Rattle.mboxrd.specs.Coming.{coming}
-use Rattle.mboxrd.specs.Feeding.{Feeding, Took}
-use Rattle.mboxrd.specs.Standing.{Reading, behind, Takes}
-use Rattle.mboxrd.specs.Passing.{Leaves, Passes, Unfinished, SameMails, OneMail, AtMostOne}
-use Rattle.mboxrd.proofs.NextMail.{mail_from, mails_behind, behind_len, ends_in_from, mail_ends_in_from}
+use Rattle.mboxrd.specs.LineStates.{remaining_from}
+use Rattle.mboxrd.specs.Buffered.{Buffered, BufferTakes}
+use Rattle.mboxrd.specs.Reading.{Reading, Takes}
+use Rattle.mboxrd.specs.Buffered.{with_from}
+use Rattle.mboxrd.specs.Answers.{HoldsRest, AtMostOneMail}
+use Rattle.mboxrd.specs.ToSeparator.{Reaches, NoSeparator, SameMails, OneMail}
+use Rattle.mboxrd.proofs.NextMail.{mail_from, mails_after, ends_in_from, mail_ends_in_from}
 
-abbrev pub reading : Feeding → ℕ → Bool → Bool → Reading
-reading f place met refused = record { held = behind met f.held; place = place; taken = f.taken; budget = f.budget; at_separator = met; refused = refused }
+abbrev pub reading : Buffered → ℕ → Bool → Bool → Reading
+reading f place met refused = record { held = with_from met f.held; place = place; taken = f.taken; budget = f.budget; at_separator = met; refused = refused }
 
-met_on : (h p eaten held rest : List ℕ) → h ++ p ≡ eaten ++ held → h ++ (p ++ rest) ≡ eaten ++ (held ++ rest)
-met_on h p eaten held rest e = sym (append_assoc h p rest) ∙ ap (λ z. z ++ rest) e ∙ append_assoc eaten held rest
+met_on : (h p passed held rest : List ℕ) → h ++ p ≡ passed ++ held → h ++ (p ++ rest) ≡ passed ++ (held ++ rest)
+met_on h p passed held rest e = sym (append_assoc h p rest) ∙ ap (λ z. z ++ rest) e ∙ append_assoc passed held rest
 
-pub reaches : (a b : Feeding) (p q : ℕ) (r v : Bool) (piece eaten sent : List ℕ) (cut : Bool) → length a.held ≤ a.taken → b.taken ≡ a.taken + length piece
-    → a.held ++ piece ≡ eaten ++ b.held → (cut ≡ false → b.held ≡ []) → Passes (Start Front) eaten sent cut
-    → SameMails (reading a p false r) piece (reading b q cut v)
-reaches a b p q r v piece eaten sent true within t met none passes rest may =
-    let x = eaten ++ (b.held ++ rest) in
+-- at a separator line, what was passed ends with its `From `
+passed_from : (passed added : List ℕ) → Reaches (Start Nothing) passed added true → (prefix : List ℕ) × (passed ≡ prefix ++ from_text)
+passed_from passed added reaching = ends_in_from passed from_text added (ap (remaining_from (Start Nothing)) (sym (append-nil passed)) ∙ reaching [])
+
+pub reaches : (a b : Buffered) (p q : ℕ) (r v : Bool) (bytes passed added : List ℕ) (found : Bool) → length a.held ≤ a.taken → b.taken ≡ a.taken + length bytes
+    → a.held ++ bytes ≡ passed ++ b.held → (found ≡ false → b.held ≡ []) → Reaches (Start Nothing) passed added found
+    → SameMails (reading a p false r) bytes (reading b q found v)
+reaches a b p q r v bytes passed added true within t met none reaching rest may =
+    let x = passed ++ (b.held ++ rest) in
     let y = from_text ++ (b.held ++ rest) in
-    let five : length from_text ≤ length eaten = behind_len eaten from_text sent (ap (coming (Start Front)) (sym (append-nil eaten)) ∙ passes []) in
-    let count : length a.held + length piece ≡ length eaten + length b.held = omega (arith, ap length met, length-append a.held piece, length-append eaten b.held) in
-    ap (mails_from (a.taken - length a.held)) (met_on a.held piece eaten b.held rest met)
-    ∙ mails_behind (a.taken - length a.held) x y sent (b.taken - length (from_text ++ b.held)) (passes (b.held ++ rest))
-    (omega (arith, within, t, count, five, length-append b.held rest, length-append eaten (b.held ++ rest)))
+    let e = passed_from passed added reaching in
+    let count : length a.held + length bytes ≡ length passed + length b.held = omega (arith, ap length met, length-append a.held bytes, length-append passed b.held) in
+    ap (mails_from (a.taken - length a.held)) (met_on a.held bytes passed b.held rest met)
+    ∙ mails_after (a.taken - length a.held) x y added (b.taken - length (from_text ++ b.held)) (reaching (b.held ++ rest))
+    (omega (arith, within, t, count, ap length e.1, length-append e.0 from_text, length-append b.held rest, length-append passed (b.held ++ rest)))
     ∙ ap (mails_from (b.taken - length (from_text ++ b.held))) (sym (append_assoc from_text b.held rest))
-reaches a b p q r v piece eaten sent false within t met none passes rest may =
-    let met_all : a.held ++ piece ≡ eaten = met ∙ ap (λ z. eaten ++ z) (none refl) ∙ append-nil eaten in
-    let count : length a.held + length piece ≡ length eaten = omega (arith, ap length met_all, length-append a.held piece) in
+reaches a b p q r v bytes passed added false within t met none reaching rest may =
+    let met_all : a.held ++ bytes ≡ passed = met ∙ ap (λ z. passed ++ z) (none refl) ∙ append-nil passed in
+    let count : length a.held + length bytes ≡ length passed = omega (arith, ap length met_all, length-append a.held bytes) in
     let nothing : b.held ++ rest ≡ [] = ap (λ z. z ++ rest) (none refl) ∙ may refl in
-    ap (mails_from (a.taken - length a.held)) (met_on a.held piece eaten b.held rest met ∙ ap (λ z. eaten ++ z) nothing ∙ append-nil eaten)
-    ∙ mails_behind (a.taken - length a.held) eaten [] sent (b.taken - length b.held) passes (omega (arith, within, t, count, ap length (none refl)))
+    ap (mails_from (a.taken - length a.held)) (met_on a.held bytes passed b.held rest met ∙ ap (λ z. passed ++ z) nothing ∙ append-nil passed)
+    ∙ mails_after (a.taken - length a.held) passed [] added (b.taken - length b.held) reaching (omega (arith, within, t, count, ap length (none refl)))
     ∙ ap (mails_from (b.taken - length b.held)) (sym nothing)
 
-pub reaches_none : (a : Feeding) (p : ℕ) (r : Bool) (piece : List ℕ) → Unfinished (Start Front) (a.held ++ piece) → AtMostOne (reading a p false r) piece
-reaches_none a p r piece u =
-    let e : mails_from (a.taken - length a.held) (a.held ++ piece) ≡ [] =
-    mails_behind (a.taken - length a.held) (a.held ++ piece) [] u.0 (a.taken - length a.held + length (a.held ++ piece)) u.1 (omega arith) in
+pub reaches_none : (a : Buffered) (p : ℕ) (r : Bool) (bytes : List ℕ) → NoSeparator (Start Nothing) (a.held ++ bytes) → AtMostOneMail (reading a p false r) bytes
+reaches_none a p r bytes u =
+    let e : mails_from (a.taken - length a.held) (a.held ++ bytes) ≡ [] =
+    mails_after (a.taken - length a.held) (a.held ++ bytes) [] u.0 (a.taken - length a.held + length (a.held ++ bytes)) u.1 (omega arith) in
     omega (arith, ap length e)
 
-pub one_mail : (a b : Feeding) (p q : ℕ) (r v : Bool) (piece eaten sent : List ℕ) (cut : Bool) → length (from_text ++ a.held) ≤ a.taken → b.taken ≡ a.taken + length piece
-    → a.held ++ piece ≡ eaten ++ b.held → (cut ≡ false → b.held ≡ []) → Passes Separator eaten sent cut
-    → OneMail (reading a p true r) piece sent (reading b q cut v)
-one_mail a b p q r v piece eaten sent true within t met none passes rest may =
-    let x = eaten ++ (b.held ++ rest) in
+pub one_mail : (a b : Buffered) (p q : ℕ) (r v : Bool) (bytes passed added : List ℕ) (found : Bool) → length (from_text ++ a.held) ≤ a.taken → b.taken ≡ a.taken + length bytes
+    → a.held ++ bytes ≡ passed ++ b.held → (found ≡ false → b.held ≡ []) → Reaches Separator passed added found
+    → OneMail (reading a p true r) bytes added (reading b q found v)
+one_mail a b p q r v bytes passed added true within t met none reaching rest may =
+    let x = passed ++ (b.held ++ rest) in
     let y = from_text ++ (b.held ++ rest) in
     let end = b.taken - length (from_text ++ b.held) in
-    let count : length a.held + length piece ≡ length eaten + length b.held = omega (arith, ap length met, length-append a.held piece, length-append eaten b.held) in
-    ap (λ z. mails_from (a.taken - length (from_text ++ a.held)) (from_text ++ z)) (met_on a.held piece eaten b.held rest met)
-    ∙ mail_from (a.taken - length (from_text ++ a.held)) x y sent end (passes (b.held ++ rest))
-    (omega (arith, within, t, count, length-append b.held rest, length-append eaten (b.held ++ rest)))
-one_mail a b p q r v piece eaten sent false within t met none passes rest may =
-    let met_all : a.held ++ piece ≡ eaten = met ∙ ap (λ z. eaten ++ z) (none refl) ∙ append-nil eaten in
-    let count : length a.held + length piece ≡ length eaten = omega (arith, ap length met_all, length-append a.held piece) in
+    let count : length a.held + length bytes ≡ length passed + length b.held = omega (arith, ap length met, length-append a.held bytes, length-append passed b.held) in
+    ap (λ z. mails_from (a.taken - length (from_text ++ a.held)) (from_text ++ z)) (met_on a.held bytes passed b.held rest met)
+    ∙ mail_from (a.taken - length (from_text ++ a.held)) x y added end (reaching (b.held ++ rest))
+    (omega (arith, within, t, count, length-append b.held rest, length-append passed (b.held ++ rest)))
+one_mail a b p q r v bytes passed added false within t met none reaching rest may =
+    let met_all : a.held ++ bytes ≡ passed = met ∙ ap (λ z. passed ++ z) (none refl) ∙ append-nil passed in
+    let count : length a.held + length bytes ≡ length passed = omega (arith, ap length met_all, length-append a.held bytes) in
     let nothing : b.held ++ rest ≡ [] = ap (λ z. z ++ rest) (none refl) ∙ may refl in
-    let made : List Mail → List Mail = λ ms. record { bytes = sent; end = b.taken - length b.held } ∷ ms in
-    ap (λ z. mails_from (a.taken - length (from_text ++ a.held)) (from_text ++ z)) (met_on a.held piece eaten b.held rest met ∙ ap (λ z. eaten ++ z) nothing ∙ append-nil eaten)
-    ∙ mail_from (a.taken - length (from_text ++ a.held)) eaten [] sent (b.taken - length b.held) passes (omega (arith, within, t, count, ap length (none refl)))
+    let made : List Mail → List Mail = λ ms. record { bytes = added; end = b.taken - length b.held } ∷ ms in
+    ap (λ z. mails_from (a.taken - length (from_text ++ a.held)) (from_text ++ z)) (met_on a.held bytes passed b.held rest met ∙ ap (λ z. passed ++ z) nothing ∙ append-nil passed)
+    ∙ mail_from (a.taken - length (from_text ++ a.held)) passed [] added (b.taken - length b.held) reaching (omega (arith, within, t, count, ap length (none refl)))
     ∙ ap (λ z. made (mails_from (b.taken - length b.held) z)) (sym nothing)
 
-pub one_at_most : (a : Feeding) (p : ℕ) (r : Bool) (piece : List ℕ) → length (from_text ++ a.held) ≤ a.taken → Unfinished Separator (a.held ++ piece) → AtMostOne (reading a p true r) piece
-one_at_most a p r piece within u =
+pub one_at_most : (a : Buffered) (p : ℕ) (r : Bool) (bytes : List ℕ) → length (from_text ++ a.held) ≤ a.taken → NoSeparator Separator (a.held ++ bytes) → AtMostOneMail (reading a p true r) bytes
+one_at_most a p r bytes within u =
     let at = a.taken - length (from_text ++ a.held) in
-    let e = mail_from at (a.held ++ piece) [] u.0 (at + length (from_text ++ (a.held ++ piece))) u.1 (omega arith) in
+    let e = mail_from at (a.held ++ bytes) [] u.0 (at + length (from_text ++ (a.held ++ bytes))) u.1 (omega arith) in
     omega (arith, ap length e)
 
-pub takes_took : (l m : Option (List ℕ)) (a b : Feeding) (p q : ℕ) (r v : Bool) (s t : Bool) (piece : List ℕ) → Took l m a b piece → Takes l m (reading a p s r) (reading b q t v) piece
-takes_took l m a b p q r v s t piece h = record { left = h.left; taken = h.taken; budget = h.budget }
+pub takes_buffered : (l m : Option (List ℕ)) (a b : Buffered) (p q : ℕ) (r v : Bool) (s t : Bool) (bytes : List ℕ) → BufferTakes l m a b bytes → Takes l m (reading a p s r) (reading b q t v) bytes
+takes_buffered l m a b p q r v s t bytes h = record { left = h.left; taken = h.taken; budget = h.budget }
 
--- what is held is no more than what was taken, with the separator in front too
-pub fits_cut : (a b : Feeding) (piece eaten sent : List ℕ) (cut : Bool) → length a.held ≤ a.taken → b.taken ≡ a.taken + length piece → length b.held ≤ b.taken
-    → a.held ++ piece ≡ eaten ++ b.held → Passes (Start Front) eaten sent cut → length (behind cut b.held) ≤ b.taken
-fits_cut a b piece eaten sent true within t few met passes =
-    let five : length from_text ≤ length eaten = behind_len eaten from_text sent (ap (coming (Start Front)) (sym (append-nil eaten)) ∙ passes []) in
-    omega (arith, ap length met, length-append a.held piece, length-append eaten b.held, five)
-fits_cut a b piece eaten sent false within t few met passes = few
+prefix_on : (h p passed held from prefix : List ℕ) → h ++ p ≡ passed ++ held → passed ≡ prefix ++ from → h ++ p ≡ prefix ++ (from ++ held)
+prefix_on h p passed held from prefix met e = met ∙ ap (λ z. z ++ held) e ∙ append_assoc prefix from held
 
-front_on : (h p eaten held from front : List ℕ) → h ++ p ≡ eaten ++ held → eaten ≡ front ++ from → h ++ p ≡ front ++ (from ++ held)
-front_on h p eaten held from front met e = met ∙ ap (λ z. z ++ held) e ∙ append_assoc front from held
+reach_holds_rest : (a b : Buffered) (p q : ℕ) (r v : Bool) (bytes passed added : List ℕ) (found : Bool) → a.held ++ bytes ≡ passed ++ b.held → Reaches (Start Nothing) passed added found → HoldsRest (reading a p false r) bytes (reading b q found v)
+reach_holds_rest a b p q r v bytes passed added true met reaching =
+    let e = passed_from passed added reaching in
+    (e.0, prefix_on a.held bytes passed b.held from_text e.0 met e.1)
+reach_holds_rest a b p q r v bytes passed added false met reaching = (passed, met)
 
-reach_leaves : (a b : Feeding) (p q : ℕ) (r v : Bool) (piece eaten sent : List ℕ) (cut : Bool) → a.held ++ piece ≡ eaten ++ b.held → Passes (Start Front) eaten sent cut → Leaves (reading a p false r) piece (reading b q cut v)
-reach_leaves a b p q r v piece eaten sent true met passes =
-    let e = ends_in_from eaten from_text sent (ap (coming (Start Front)) (sym (append-nil eaten)) ∙ passes []) in
-    (e.0, front_on a.held piece eaten b.held from_text e.0 met e.1)
-reach_leaves a b p q r v piece eaten sent false met passes = (eaten, met)
+mail_holds_rest : (a b : Buffered) (p q : ℕ) (r v : Bool) (bytes passed added : List ℕ) (found : Bool) → a.held ++ bytes ≡ passed ++ b.held → Reaches Separator passed added found → HoldsRest (reading a p true r) bytes (reading b q found v)
+mail_holds_rest a b p q r v bytes passed added true met reaching =
+    let e = mail_ends_in_from passed from_text added (ap (remaining_from Separator) (sym (append-nil passed)) ∙ reaching []) in
+    (e.0, prefix_on (from_text ++ a.held) bytes (from_text ++ passed) b.held from_text e.0 (ap (λ z. from_text ++ z) met) e.1)
+mail_holds_rest a b p q r v bytes passed added false met reaching = (from_text ++ passed, ap (λ z. from_text ++ z) met)
 
-mail_leaves : (a b : Feeding) (p q : ℕ) (r v : Bool) (piece eaten sent : List ℕ) (cut : Bool) → a.held ++ piece ≡ eaten ++ b.held → Passes Separator eaten sent cut → Leaves (reading a p true r) piece (reading b q cut v)
-mail_leaves a b p q r v piece eaten sent true met passes =
-    let e = mail_ends_in_from eaten from_text sent (ap (coming Separator) (sym (append-nil eaten)) ∙ passes []) in
-    (e.0, front_on (from_text ++ a.held) piece (from_text ++ eaten) b.held from_text e.0 (ap (λ z. from_text ++ z) met) e.1)
-mail_leaves a b p q r v piece eaten sent false met passes = (from_text ++ eaten, ap (λ z. from_text ++ z) met)
-
--- the same, of a reader whose value is another name for these fields
-as_reading : (P : Reading → Type 0) (f : Feeding) (p : ℕ) (r : Bool) (s t : Bool) (old : Reading) → reading f p s r ≡ old → s ≡ t → P (reading f p t r) → P old
+-- the same of a reader whose value is another name for these fields
+as_reading : (P : Reading → Type 0) (f : Buffered) (p : ℕ) (r : Bool) (s t : Bool) (old : Reading) → reading f p s r ≡ old → s ≡ t → P (reading f p t r) → P old
 as_reading P f p r s t old view is h = let Q : Bool → Type 0 = λ z. P (reading f p z r) in subst P view (subst Q (sym is) h)
 
-pub fits_as : (f : Feeding) (s t : Bool) → s ≡ t → length (behind s f.held) ≤ f.taken → length (behind t f.held) ≤ f.taken
-fits_as f s t is h = let Q : Bool → Type 0 = λ z. length (behind z f.held) ≤ f.taken in subst Q is h
+pub fits_as : (f : Buffered) (s t : Bool) → s ≡ t → length (with_from s f.held) ≤ f.taken → length (with_from t f.held) ≤ f.taken
+fits_as f s t is h = let Q : Bool → Type 0 = λ z. length (with_from z f.held) ≤ f.taken in subst Q is h
 
-pub reach_ok : (l m : Option (List ℕ)) (old : Reading) (f b : Feeding) (s cut : Bool) (p q : ℕ) (r v : Bool) (piece eaten sent : List ℕ)
-    → reading f p s r ≡ old → s ≡ false → length (behind s f.held) ≤ f.taken → Took l m f b piece → f.held ++ piece ≡ eaten ++ b.held → (cut ≡ false → b.held ≡ [])
-    → Passes (Start Front) eaten sent cut → Takes l m old (reading b q cut v) piece × (SameMails old piece (reading b q cut v) × Leaves old piece (reading b q cut v))
-reach_ok l m old f b s cut p q r v piece eaten sent view is within took met none passes =
-    as_reading (λ o. Takes l m o (reading b q cut v) piece × (SameMails o piece (reading b q cut v) × Leaves o piece (reading b q cut v))) f p r s false old view is
-    (takes_took l m f b p q r v false cut piece took, (reaches f b p q r v piece eaten sent cut (fits_as f s false is within) took.taken met none passes, reach_leaves f b p q r v piece eaten sent cut met passes))
+pub reach_ok : (l m : Option (List ℕ)) (old : Reading) (f b : Buffered) (s found : Bool) (p q : ℕ) (r v : Bool) (bytes passed added : List ℕ)
+    → reading f p s r ≡ old → s ≡ false → length (with_from s f.held) ≤ f.taken → BufferTakes l m f b bytes → f.held ++ bytes ≡ passed ++ b.held → (found ≡ false → b.held ≡ [])
+    → Reaches (Start Nothing) passed added found → Takes l m old (reading b q found v) bytes × (SameMails old bytes (reading b q found v) × HoldsRest old bytes (reading b q found v))
+reach_ok l m old f b s found p q r v bytes passed added view is within took met none reaching =
+    as_reading (λ o. Takes l m o (reading b q found v) bytes × (SameMails o bytes (reading b q found v) × HoldsRest o bytes (reading b q found v))) f p r s false old view is
+    (takes_buffered l m f b p q r v false found bytes took, (reaches f b p q r v bytes passed added found (fits_as f s false is within) took.taken met none reaching, reach_holds_rest f b p q r v bytes passed added found met reaching))
 
-pub reach_err : (l m : Option (List ℕ)) (old : Reading) (f b : Feeding) (s t : Bool) (p q : ℕ) (r v : Bool) (piece : List ℕ) (E : Type 0)
-    → reading f p s r ≡ old → s ≡ false → Took l m f b piece → (E → Unfinished (Start Front) (f.held ++ piece)) → Takes l m old (reading b q t v) piece × (E → AtMostOne old piece)
-reach_err l m old f b s t p q r v piece E view is took u =
-    as_reading (λ o. Takes l m o (reading b q t v) piece × (E → AtMostOne o piece)) f p r s false old view is
-    (takes_took l m f b p q r v false t piece took, λ e. reaches_none f p r piece (u e))
+pub reach_err : (l m : Option (List ℕ)) (old : Reading) (f b : Buffered) (s t : Bool) (p q : ℕ) (r v : Bool) (bytes : List ℕ) (E : Type 0)
+    → reading f p s r ≡ old → s ≡ false → BufferTakes l m f b bytes → (E → NoSeparator (Start Nothing) (f.held ++ bytes)) → Takes l m old (reading b q t v) bytes × (E → AtMostOneMail old bytes)
+reach_err l m old f b s t p q r v bytes E view is took u =
+    as_reading (λ o. Takes l m o (reading b q t v) bytes × (E → AtMostOneMail o bytes)) f p r s false old view is
+    (takes_buffered l m f b p q r v false t bytes took, λ e. reaches_none f p r bytes (u e))
 
-pub mail_ok : (l m : Option (List ℕ)) (old : Reading) (f b : Feeding) (s cut : Bool) (p q : ℕ) (r v : Bool) (piece eaten sent : List ℕ)
-    → reading f p s r ≡ old → s ≡ true → length (behind s f.held) ≤ f.taken → Took l m f b piece → f.held ++ piece ≡ eaten ++ b.held → (cut ≡ false → b.held ≡ [])
-    → Passes Separator eaten sent cut → Takes l m old (reading b q cut v) piece × OneMail old piece sent (reading b q cut v) × Leaves old piece (reading b q cut v)
-mail_ok l m old f b s cut p q r v piece eaten sent view is within took met none passes =
-    as_reading (λ o. Takes l m o (reading b q cut v) piece × OneMail o piece sent (reading b q cut v) × Leaves o piece (reading b q cut v)) f p r s true old view is
-    (takes_took l m f b p q r v true cut piece took, one_mail f b p q r v piece eaten sent cut (fits_as f s true is within) took.taken met none passes, mail_leaves f b p q r v piece eaten sent cut met passes)
+pub mail_ok : (l m : Option (List ℕ)) (old : Reading) (f b : Buffered) (s found : Bool) (p q : ℕ) (r v : Bool) (bytes passed added : List ℕ)
+    → reading f p s r ≡ old → s ≡ true → length (with_from s f.held) ≤ f.taken → BufferTakes l m f b bytes → f.held ++ bytes ≡ passed ++ b.held → (found ≡ false → b.held ≡ [])
+    → Reaches Separator passed added found → Takes l m old (reading b q found v) bytes × OneMail old bytes added (reading b q found v) × HoldsRest old bytes (reading b q found v)
+mail_ok l m old f b s found p q r v bytes passed added view is within took met none reaching =
+    as_reading (λ o. Takes l m o (reading b q found v) bytes × OneMail o bytes added (reading b q found v) × HoldsRest o bytes (reading b q found v)) f p r s true old view is
+    (takes_buffered l m f b p q r v true found bytes took, one_mail f b p q r v bytes passed added found (fits_as f s true is within) took.taken met none reaching, mail_holds_rest f b p q r v bytes passed added found met reaching)
 
-pub mail_err : (l m : Option (List ℕ)) (old : Reading) (f b : Feeding) (s t : Bool) (p q : ℕ) (r v : Bool) (piece : List ℕ) (E : Type 0)
-    → reading f p s r ≡ old → s ≡ true → length (behind s f.held) ≤ f.taken → Took l m f b piece → (E → Unfinished Separator (f.held ++ piece)) → Takes l m old (reading b q t v) piece × (E → AtMostOne old piece)
-mail_err l m old f b s t p q r v piece E view is within took u =
-    as_reading (λ o. Takes l m o (reading b q t v) piece × (E → AtMostOne o piece)) f p r s true old view is
-    (takes_took l m f b p q r v true t piece took, λ e. one_at_most f p r piece (fits_as f s true is within) (u e))
+pub mail_err : (l m : Option (List ℕ)) (old : Reading) (f b : Buffered) (s t : Bool) (p q : ℕ) (r v : Bool) (bytes : List ℕ) (E : Type 0)
+    → reading f p s r ≡ old → s ≡ true → length (with_from s f.held) ≤ f.taken → BufferTakes l m f b bytes → (E → NoSeparator Separator (f.held ++ bytes)) → Takes l m old (reading b q t v) bytes × (E → AtMostOneMail old bytes)
+mail_err l m old f b s t p q r v bytes E view is within took u =
+    as_reading (λ o. Takes l m o (reading b q t v) bytes × (E → AtMostOneMail o bytes)) f p r s true old view is
+    (takes_buffered l m f b p q r v true t bytes took, λ e. one_at_most f p r bytes (fits_as f s true is within) (u e))
 
-pub reach_fits : (a b : Feeding) (s : Bool) (piece eaten sent : List ℕ) (cut : Bool) → s ≡ false → length (behind s a.held) ≤ a.taken → b.taken ≡ a.taken + length piece → length b.held ≤ b.taken
-    → a.held ++ piece ≡ eaten ++ b.held → Passes (Start Front) eaten sent cut → length (behind cut b.held) ≤ b.taken
-reach_fits a b s piece eaten sent cut is within t few met passes = fits_cut a b piece eaten sent cut (fits_as a s false is within) t few met passes
+-- what is held is no more than what was taken, also with the `From ` of a separator line before it
+pub reach_fits : (a b : Buffered) (s : Bool) (bytes passed added : List ℕ) (found : Bool) → s ≡ false → length (with_from s a.held) ≤ a.taken → b.taken ≡ a.taken + length bytes → length b.held ≤ b.taken
+    → a.held ++ bytes ≡ passed ++ b.held → Reaches (Start Nothing) passed added found → length (with_from found b.held) ≤ b.taken
+reach_fits a b s bytes passed added true is within t few met reaching =
+    let e = passed_from passed added reaching in
+    omega (arith, fits_as a s false is within, t, ap length met, length-append a.held bytes, length-append passed b.held, ap length e.1, length-append e.0 from_text)
+reach_fits a b s bytes passed added false is within t few met reaching = few
 
-pub mail_fits : (a b : Feeding) (s : Bool) (piece eaten : List ℕ) → s ≡ true → length (behind s a.held) ≤ a.taken → b.taken ≡ a.taken + length piece
-    → a.held ++ piece ≡ eaten ++ b.held → 5 + length b.held ≤ b.taken
-mail_fits a b s piece eaten is within t met = omega (arith, fits_as a s true is within, t, ap length met, length-append a.held piece, length-append eaten b.held)
+pub mail_fits : (a b : Buffered) (s : Bool) (bytes passed : List ℕ) → s ≡ true → length (with_from s a.held) ≤ a.taken → b.taken ≡ a.taken + length bytes
+    → a.held ++ bytes ≡ passed ++ b.held → 5 + length b.held ≤ b.taken
+mail_fits a b s bytes passed is within t met = omega (arith, fits_as a s true is within, t, ap length met, length-append a.held bytes, length-append passed b.held)
 
-pub behind_fits : (cut : Bool) (b : Feeding) → 5 + length b.held ≤ b.taken → length (behind cut b.held) ≤ b.taken
-behind_fits true b h = omega arith
-behind_fits false b h = omega arith
+pub with_from_fits : (found : Bool) (b : Buffered) → 5 + length b.held ≤ b.taken → length (with_from found b.held) ≤ b.taken
+with_from_fits true b h = omega arith
+with_from_fits false b h = omega arith

@@ -38,5 +38,5 @@ empty_mails = refl
 unquoted_rows : unquoted (codes "> From ") ≡ codes "> From "
 unquoted_rows = refl
 
-unquoted_front : unquoted (codes ">>From") ≡ codes ">>From"
-unquoted_front = refl
+unquoted_prefix : unquoted (codes ">>From") ≡ codes ">>From"
+unquoted_prefix = refl

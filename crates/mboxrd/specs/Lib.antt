@@ -1,7 +1,10 @@
+-- What public clauses cite.
 pub mod Mails
-pub mod Halves
-pub mod Coming
-pub mod Keeping
-pub mod Feeding
-pub mod Standing
-pub mod Passing
+pub mod Reading
+pub mod Answers
+-- What only proofs and private functions use.
+pub mod Remaining
+pub mod LineStates
+pub mod ToSeparator
+pub mod Buffered
+pub mod Prefix

@@ -1,20 +1,25 @@
-//! Why a reader of an mbox is refused.
+//! Why a reader of an mbox gives no answer.
 ghost use Rattle.std.specs.Prelude.{◌≡◌};
 ghost use Rattle.mboxrd.specs.declared.fault.BoxFault.TheVariants as fault;
 
 use kit::Memory;
 use outside::Failed;
+use thiserror::Error;
 
-// Want of memory is free, as of `kit::Memory`: a body that only answers it meets each contract that allows it.
+// No clause says when memory runs out, as of `kit::Memory`: a body that only answers so meets each contract
+// that allows it.
 
 /// Why a call of [`crate::MboxReader`] gave no answer.
-#[derive(Clone, Copy, Debug, PartialEq, Eq)]
+#[derive(Clone, Copy, Debug, PartialEq, Eq, Error)]
 pub enum BoxFault {
     /// The source failed.
+    #[error("the mbox could not be read")]
     Read,
-    /// As many bytes were taken as the reader may take, and more were needed.
+    /// As many bytes were taken as the reader may take, and one more was needed.
+    #[error("the mbox did not end within the bytes that may be read")]
     Endless,
     /// Memory ran out.
+    #[error("out of memory")]
     Memory,
 }
 

@@ -1,15 +1,15 @@
-//! The mails of an mbox (RFC 4155, in the form that is called mboxrd), read from a source that gives its
-//! bytes in any pieces. A reader holds one piece of the source and one mail at most.
+//! The mails of an mbox (RFC 4155, appendix A, in the variant that is called mboxrd), read from a source that
+//! gives its bytes in chunks of any size. A reader holds one chunk and one mail at most.
 #![tactic(auto)]
 
+mod buffer;
 mod fault;
-mod feed;
-mod kept;
-mod pass;
+mod line_state;
+mod mail_prefix;
 mod reader;
-mod spot;
+mod separator;
+mod step;
 mod taken;
-mod turn;
 
 pub use fault::BoxFault;
 pub use reader::MboxReader;

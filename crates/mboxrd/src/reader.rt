@@ -3,33 +3,38 @@ ghost use Rattle.std.specs.Prelude.{◌≡◌, ◌<◌, ◌≤◌, ◌+◌, ◌+
 ghost use Rattle.std.specs.Io.KnownBytes.{IsAtEnd};
 ghost use Rattle.outside.specs.Causes.{Rose};
 ghost use Rattle.mboxrd.specs.Mails.{mails_from};
-ghost use Rattle.mboxrd.specs.Standing.{IsAt, Takes, position};
-ghost use Rattle.mboxrd.specs.Passing.{longest, SameMails, OneMail, AtMostOne, Leaves, Answers, Gives, Drops, IfTells};
+ghost use Rattle.mboxrd.specs.Reading.{IsAt, Takes, position};
+ghost use Rattle.mboxrd.specs.Answers.{max_mail_len, AtMostOneMail, HoldsRest, Decides, IsNext, Drops, IfKnown};
+ghost use Rattle.mboxrd.specs.ToSeparator.{SameMails, OneMail};
 
+use crate::buffer::Buffer;
 use crate::fault::BoxFault;
-use crate::feed::Feed;
-use crate::kept::Kept;
-use crate::pass::to_separator;
-use crate::spot::{Closing, Spot};
+use crate::line_state::{LineState, Preceding};
+use crate::mail_prefix::MailPrefix;
+use crate::separator::read_to_separator;
 use crate::taken::Taken;
 use kit::Memory;
 use outside::Source;
 use std::alloc::Global;
 use std::marker::Model;
 
-/// The most bytes that a mail may have.
-const LONGEST: usize = 67_108_864;
+/// The most bytes that a mail may have: 64 MiB.
+const MAX_MAIL_LEN: usize = 67_108_864;
 
-/// Reads the mails of an mbox from a source, one after the other (RFC 4155, appendix A, in the form that
+/// Reads the mails of an mbox from a source, one after the other (RFC 4155, appendix A, in the variant that
 /// is called mboxrd).
 ///
-/// A separator is a line that begins with `From ` and stands at the start, or where a skip ended, or
-/// behind an empty line. A mail is the lines from behind a separator up to the next one or the end,
-/// without the empty line that closes it.
+/// A separator line begins with `From `, and is the first line, or the first after a skip, or follows an
+/// empty line. A mail is the lines after a separator line up to the next one or the end, without the empty
+/// line that closes it. A line of one or more `>` and then `From ` is quoted: the mail has it with one `>`
+/// less.
+///
+/// Each call takes the source, which must be the same for all calls. After a call that failed none but
+/// [`MboxReader::place`] may follow.
 #[derive(Drop)]
 pub struct MboxReader {
-    feed: Feed,
-    // The `From ` of a separator was read: it stands before what the feed holds.
+    buffer: Buffer,
+    // The `From ` of a separator line was read. It comes before what the buffer holds.
     at_separator: bool,
     place: u64,
     refused: bool,
@@ -37,28 +42,29 @@ pub struct MboxReader {
 
 impl Model for MboxReader {
     ghost use Rattle.std.specs.Prelude.{◌≤◌, length};
-    ghost use Rattle.mboxrd.specs.Standing.{Reading, behind};
+    ghost use Rattle.mboxrd.specs.Reading.{Reading};
+    ghost use Rattle.mboxrd.specs.Buffered.{with_from};
 
     ghost Value = { Reading };
 
     ghost view = { λ reader. record {
-      held = behind reader.at_separator reader.feed.held;
+      held = with_from reader.at_separator reader.buffer.held;
       place = reader.place;
-      taken = reader.feed.taken;
-      budget = reader.feed.budget;
+      taken = reader.buffer.taken;
+      budget = reader.buffer.budget;
       at_separator = reader.at_separator;
       refused = reader.refused;
     } };
 
-    ghost invariant = { λ reader. length (behind reader.at_separator reader.feed.held) ≤ reader.feed.taken };
+    ghost invariant = { λ reader. length (with_from reader.at_separator reader.buffer.held) ≤ reader.buffer.taken };
 }
 
 impl MboxReader {
-    /// A reader that holds no bytes, at place 0. It takes up to `piece` bytes at once, from 1 to 1,048,576, and
-    /// no more than `budget` bytes in all.
-    pub fn new(alloc: Global, piece: usize, budget: u64) -> Result<MboxReader, Memory>
-        requires some { 1 ≤ piece }
-        requires limit { piece ≤ 1048576 }
+    /// A reader at offset 0. It takes up to `chunk_len` bytes of its source at once, from 1 to 1,048,576, and no
+    /// more than `budget` bytes in all. Takes memory for one chunk; `Err` only when it runs out.
+    pub fn new(alloc: Global, chunk_len: usize, budget: u64) -> Result<MboxReader, Memory>
+        requires some { 1 ≤ chunk_len }
+        requires limit { chunk_len ≤ 1048576 }
         ensures { IfOk result (λ reader. reader ≡ record {
           held = [];
           place = 0;
@@ -68,17 +74,17 @@ impl MboxReader {
           refused = false;
         }) }
     {
-        let feed = Feed::new(alloc, piece, budget)?;
+        let buffer = Buffer::new(alloc, chunk_len, budget)?;
         Ok(MboxReader {
-            feed,
+            buffer,
             at_separator: false,
             place: 0,
             refused: false,
         })
     }
 
-    /// The place where the last mail ended, given or too long, behind the empty line that closes it: its
-    /// number of bytes from the start. Where no mail was read yet it is where the skip ended, or 0. Takes
+    /// The offset where the last mail ended, given or too long, after the empty line that closes it: a number
+    /// of bytes from the start of the source. Before the first mail it is where the last skip ended, or 0. Takes
     /// no memory.
     pub fn place(&self) -> u64
         ensures { result ≡ self.now.place }
@@ -86,12 +92,12 @@ impl MboxReader {
         self.place
     }
 
-    /// Lets go of up to `count` bytes and says of how many: fewer only at the end. The reader then
-    /// stands there, as at the start of an mbox. It may be called only before the first
-    /// [`MboxReader::next`], and not after a refusal. Takes no memory.
+    /// Passes over up to `count` bytes, and says how many: fewer only at the end. The next line may then be a
+    /// separator line, as at the start of an mbox. It may be called only before the first
+    /// [`MboxReader::next`], and not after a call that failed. Takes no memory.
     ///
-    /// `Read` comes only at a fault of the source, and `Endless` only where exactly the budget was taken in
-    /// this reader's life and one more byte was needed.
+    /// `Read` comes only where the source failed in this call, and `Endless` only where exactly the budget
+    /// was taken in this reader's life and one more byte was needed.
     pub fn skip<S: Source>(&mut self, source: &mut S, count: u64) -> Result<u64, BoxFault>
         requires first { self.old.at_separator ≡ false }
         requires usable { self.old.refused ≡ false }
@@ -99,11 +105,11 @@ impl MboxReader {
         ensures read { IsErrOf result BoxFault.Read → Rose (S.faults source.old) (S.faults source.new) }
         ensures endless { IsErrOf result BoxFault.Endless → self.new.taken ≡ self.new.budget }
         ensures memory { IsErrOf result BoxFault.Memory → ⊥ }
-        // These bytes were taken of the source, and at a refusal they were too few.
-        ensures took { (piece : List ℕ) × Takes (S.left source.old) (S.left source.new) self.old self.new piece
+        // These bytes were taken of the source, and at Err they and what was held were too few.
+        ensures took { (bytes : List ℕ) × Takes (S.left source.old) (S.left source.new) self.old self.new bytes
             × (MatchResult result
-            (λ dropped. Drops self.old.held piece dropped self.new.held)
-            (λ _. length (self.old.held ++ piece) < count)) }
+            (λ dropped. Drops self.old.held bytes dropped self.new.held)
+            (λ _. length (self.old.held ++ bytes) < count)) }
         ensures count { IfOk result (λ dropped. dropped ≤ count) }
         ensures end { IfOk result (λ dropped. dropped < count → IsAtEnd (S.left source.new) × (self.new.held ≡ [])) }
         ensures moved { IfOk result (λ dropped. position self.new ≡ position self.old + dropped) }
@@ -111,27 +117,27 @@ impl MboxReader {
         ensures first { OnOk result (self.new.at_separator ≡ false) }
         ensures usable { OnOk result (self.new.refused ≡ false) }
         ensures refused { OnErr result (self.new.refused ≡ true) }
-        // What is held, followed by what the source has left, is the file from where the reader stands.
-        ensures stands { OnOk result (IfTells (S.left source.old) (S.left source.new) (λ before after.
+        // What is held, followed by what the source has left, is the file from the reader's position on.
+        ensures position { OnOk result (IfKnown (S.left source.old) (S.left source.new) (λ before after.
             (file : List ℕ) → IsAt file before self.old → IsAt file after self.new)) }
     {
-        // It stood at no separator, and stands at none behind the skip.
+        // The reader was at no separator line, and is at none after the skip.
         self.refused = true;
-        let dropped = self.feed.skip(source, count)?;
+        let dropped = self.buffer.skip(source, count)?;
         self.refused = false;
-        self.place = self.feed.position();
+        self.place = self.buffer.position();
         Ok(dropped)
     }
 
-    // Goes on to the next separator, where it doesn't stand at one, or to the end.
+    // Goes to the next separator line, if it is at none, or to the end, and says whether there is one.
     fn reach<S: Source>(&mut self, alloc: Global, source: &mut S) -> Result<bool, BoxFault>
         ensures later { S.faults source.old ≤ S.faults source.new }
         ensures read { IsErrOf result BoxFault.Read → Rose (S.faults source.old) (S.faults source.new) }
         ensures endless { IsErrOf result BoxFault.Endless → self.new.taken ≡ self.new.budget }
-        ensures took { (piece : List ℕ) × Takes (S.left source.old) (S.left source.new) self.old self.new piece
+        ensures took { (bytes : List ℕ) × Takes (S.left source.old) (S.left source.new) self.old self.new bytes
             × (MatchResult result
-            (λ _. SameMails self.old piece self.new × Leaves self.old piece self.new)
-            (λ why. why ≡ BoxFault.Endless → AtMostOne self.old piece)) }
+            (λ _. SameMails self.old bytes self.new × HoldsRest self.old bytes self.new)
+            (λ why. why ≡ BoxFault.Endless → AtMostOneMail self.old bytes)) }
         ensures before { length self.old.held ≤ self.old.taken }
         ensures fewer { length self.new.held ≤ self.new.taken }
         ensures found { IfOk result (λ found. found ≡ self.new.at_separator) }
@@ -143,29 +149,30 @@ impl MboxReader {
         if self.at_separator {
             return Ok(true);
         }
-        let mut nothing = Kept::new(alloc, 0);
+        let mut nothing = MailPrefix::new(alloc, 0);
         self.refused = true;
-        self.at_separator = to_separator(
-            &mut self.feed,
+        self.at_separator = read_to_separator(
+            &mut self.buffer,
             source,
-            Spot::Start(Closing::Front),
+            LineState::Start(Preceding::Nothing),
             &mut nothing,
         )?;
         self.refused = false;
         Ok(self.at_separator)
     }
 
-    // Reads the mail whose separator it stands at: all of it, but no more than one byte too many.
+    // Reads the mail whose separator line it is at, and gives its bytes: of one that is too long only the first, one
+    // more than a mail may have.
     fn read_mail<S: Source>(&mut self, alloc: Global, source: &mut S) -> Result<Vec<u8>, BoxFault>
         requires { self.old.at_separator ≡ true }
         ensures later { S.faults source.old ≤ S.faults source.new }
         ensures read { IsErrOf result BoxFault.Read → Rose (S.faults source.old) (S.faults source.new) }
         ensures endless { IsErrOf result BoxFault.Endless → self.new.taken ≡ self.new.budget }
-        ensures took { (piece : List ℕ) × Takes (S.left source.old) (S.left source.new) self.old self.new piece
+        ensures took { (bytes : List ℕ) × Takes (S.left source.old) (S.left source.new) self.old self.new bytes
             × (MatchResult result
-            (λ bytes. (mail : List ℕ) × (bytes.items ≡ take (longest + 1) mail)
-            × OneMail self.old piece mail self.new × Leaves self.old piece self.new)
-            (λ why. why ≡ BoxFault.Endless → AtMostOne self.old piece)) }
+            (λ kept. (mail : List ℕ) × (kept.items ≡ take (max_mail_len + 1) mail)
+            × OneMail self.old bytes mail self.new × HoldsRest self.old bytes self.new)
+            (λ why. why ≡ BoxFault.Endless → AtMostOneMail self.old bytes)) }
         ensures fewer { length self.new.held ≤ self.new.taken }
         ensures end { OnOk result (self.new.at_separator ≡ false → IsAtEnd (S.left source.new) × (self.new.held ≡ [])) }
         ensures place { OnOk result (self.new.place ≡ position self.new) }
@@ -174,40 +181,42 @@ impl MboxReader {
     {
         self.refused = true;
         self.at_separator = false;
-        let mut mail = Kept::new(alloc, LONGEST + 1);
-        let met = to_separator(&mut self.feed, source, Spot::Separator, &mut mail)?;
-        self.at_separator = met;
-        self.place = self.feed.position() - if met { 5 } else { 0 };
+        let mut mail = MailPrefix::new(alloc, MAX_MAIL_LEN + 1);
+        let found = read_to_separator(&mut self.buffer, source, LineState::Separator, &mut mail)?;
+        self.at_separator = found;
+        // The mail ends before the `From ` that was read.
+        self.place = self.buffer.position() - if found { 5 } else { 0 };
         self.refused = false;
         Ok(mail.into_bytes())
     }
 
-    /// The mail that lies next, `TooLong` where it passes 67,108,864 bytes, or `End` where there is none.
-    /// The reader then stands at the next separator or at the end. It may not be called after a refusal.
-    /// Takes memory for the mail and no more than one byte of a longer one.
+    /// The next mail, `TooLong` where it has more than 67,108,864 bytes, or `End` where there is none. The
+    /// reader is then at the separator line that follows, or at the end. It may not be called after a call
+    /// that failed. Takes memory for the mail, and for no more than 67,108,865 bytes of a longer one.
     ///
-    /// `Read` comes only at a fault of the source, and `Endless` only where exactly the budget was taken in
-    /// this reader's life and one more byte was needed.
+    /// `Read` comes only where the source failed in this call, and `Endless` only where exactly the budget
+    /// was taken in this reader's life and one more byte was needed.
     pub fn next<S: Source>(&mut self, alloc: Global, source: &mut S) -> Result<Taken, BoxFault>
         requires usable { self.old.refused ≡ false }
         ensures later { S.faults source.old ≤ S.faults source.new }
         ensures read { IsErrOf result BoxFault.Read → Rose (S.faults source.old) (S.faults source.new) }
         ensures endless { IsErrOf result BoxFault.Endless → self.new.taken ≡ self.new.budget }
-        // These bytes were taken of the source. They decide the answer, and at Endless they show the end of no mail.
-        ensures took { (piece : List ℕ) × Takes (S.left source.old) (S.left source.new) self.old self.new piece
+        // These bytes were taken of the source. They and what was held decide the answer, and at Endless at most one
+        // mail begins in them, so its end is not known.
+        ensures took { (bytes : List ℕ) × Takes (S.left source.old) (S.left source.new) self.old self.new bytes
             × (MatchResult result
-            (λ answer. Answers self.old piece answer self.new × Leaves self.old piece self.new)
-            (λ why. why ≡ BoxFault.Endless → AtMostOne self.old piece)) }
+            (λ answer. Decides self.old bytes answer self.new × HoldsRest self.old bytes self.new)
+            (λ why. why ≡ BoxFault.Endless → AtMostOneMail self.old bytes)) }
         ensures end { OnOk result (self.new.at_separator ≡ false → IsAtEnd (S.left source.new) × (self.new.held ≡ [])) }
         ensures usable { OnOk result (self.new.refused ≡ false) }
         ensures refused { OnErr result (self.new.refused ≡ true) }
-        // Where the source tells its bytes: the answer is the first mail from where the reader stood, `place` is its end, and the
-        // others are those from where it stands then.
-        ensures answer { IfOk result (λ answer. IfTells (S.left source.old) (S.left source.new) (λ before after.
-            Gives (mails_from (position self.old) (self.old.held ++ before)) answer self.old self.new
+        // Where the source's bytes are known, the answer is the first of the mails from the old position on, `place` is
+        // its end, and the others are those from the new position on.
+        ensures answer { IfOk result (λ answer. IfKnown (S.left source.old) (S.left source.new) (λ before after.
+            IsNext (mails_from (position self.old) (self.old.held ++ before)) answer self.old self.new
             (mails_from (position self.new) (self.new.held ++ after)))) }
-        // What is held, followed by what the source has left, is the file from where the reader stands.
-        ensures stands { OnOk result (IfTells (S.left source.old) (S.left source.new) (λ before after.
+        // What is held, followed by what the source has left, is the file from the reader's position on.
+        ensures position { OnOk result (IfKnown (S.left source.old) (S.left source.new) (λ before after.
             (file : List ℕ) → IsAt file before self.old → IsAt file after self.new)) }
     {
         let found = self.reach(alloc, source)?;
@@ -215,7 +224,7 @@ impl MboxReader {
             return Ok(Taken::End);
         }
         let bytes = self.read_mail(alloc, source)?;
-        if bytes.len() > LONGEST {
+        if bytes.len() > MAX_MAIL_LEN {
             return Ok(Taken::TooLong);
         }
         Ok(Taken::Mail(bytes))

@@ -4,7 +4,6 @@ use Rattle.std.specs.Str.{is_utf8, chars}
 use Rattle.std.specs.Str.Lossy.{utf8_lossy, utf8_valid_len, utf8_error_len}
 use Rattle.std.specs.Fmt.{digits}
 use Rattle.std.specs.List.{concat}
-use Rattle.percent_encoding.specs.Percent.{percent_decode}
 use Rattle.mail_headers.specs.Headers.{header_of}
 use Rattle.transfer_code.specs.Encodings.{decode_body}
 use Rattle.mime_parts.specs.declared.part.PartNode.{PartNode}
@@ -23,14 +22,14 @@ one_part = refl
 preamble_and_epilogue : texts (codes "b") (codes "pre\n--b\nx\n--b\ny\n--b--\npost\n--b\nz") ≡ codes "x" ∷ codes "y" ∷ []
 preamble_and_epilogue = refl
 
--- only one line end belongs to the delimiter line behind it
+-- only one line end belongs to the delimiter line after it
 line_ends : texts (codes "b") (codes "--b\n\nx\n\n--b--") ≡ codes "\nx\n" ∷ []
 line_ends = refl
 
 cr_lf : texts (codes "b") (codes "--b\r\nx\r\n--b--\r\n") ≡ codes "x" ∷ []
 cr_lf = refl
 
--- RFC 2046, section 5.1.1, allows white space behind a boundary
+-- RFC 2046, section 5.1.1, allows white space after a boundary
 white_space : texts (codes "b") (codes "--b \t\nx\n--b-- \n") ≡ codes "x" ∷ []
 white_space = refl
 
@@ -93,18 +92,18 @@ abbrev row : ℕ → List ℕ → List ℕ → List ℕ → Bool → Seen
 row depth kind name content leaf = record { depth = depth; kind = kind; name = name; content = content; leaf = leaf }
 
 plain_mail : seen_in (codes "A: b\n\nHi\n") ≡ row 0 (codes "text/plain") [] (codes "Hi\n") true ∷ []
-unfolding utf8_lossy utf8_valid_len utf8_error_len is_utf8 chars lib.Utf8.encode digits percent_decode
+unfolding utf8_lossy utf8_valid_len utf8_error_len is_utf8 chars lib.Utf8.encode digits
 plain_mail = refl
 
 empty_mail : seen_in [] ≡ row 0 (codes "text/plain") [] [] true ∷ []
-unfolding utf8_lossy utf8_valid_len utf8_error_len is_utf8 chars lib.Utf8.encode digits percent_decode
+unfolding utf8_lossy utf8_valid_len utf8_error_len is_utf8 chars lib.Utf8.encode digits
 empty_mail = refl
 
 two_parts : seen_in (codes "Content-Type: multipart/mixed; boundary=b\n\n--b\n\nx\n--b\nContent-Type: a/b; name=n\n\ny\n--b--\n")
     ≡ row 0 (codes "multipart/mixed") [] (codes "--b\n\nx\n--b\nContent-Type: a/b; name=n\n\ny\n--b--\n") false
     ∷ row 1 (codes "text/plain") [] (codes "x") true
     ∷ row 1 (codes "a/b") (codes "n") (codes "y") true ∷ []
-unfolding utf8_lossy utf8_valid_len utf8_error_len is_utf8 chars lib.Utf8.encode digits percent_decode
+unfolding utf8_lossy utf8_valid_len utf8_error_len is_utf8 chars lib.Utf8.encode digits
 two_parts = refl
 
 -- RFC 2046, section 5.1.5
@@ -113,32 +112,32 @@ digest : seen_in (codes "Content-Type: multipart/digest; boundary=b\n\n--b\n\nx\
     ∷ row 1 (codes "message/rfc822") [] (codes "x") true
     ∷ row 1 (codes "message/rfc822") [] (codes "y") true
     ∷ row 1 (codes "text/plain") [] (codes "z") true ∷ []
-unfolding utf8_lossy utf8_valid_len utf8_error_len is_utf8 chars lib.Utf8.encode digits percent_decode
+unfolding utf8_lossy utf8_valid_len utf8_error_len is_utf8 chars lib.Utf8.encode digits
 digest = refl
 
 encrypted : seen_in (codes "Content-Type: multipart/encrypted; boundary=b\n\n--b\n\nx\n--b--\n")
     ≡ row 0 (codes "multipart/encrypted") [] (codes "--b\n\nx\n--b--\n") true ∷ []
-unfolding utf8_lossy utf8_valid_len utf8_error_len is_utf8 chars lib.Utf8.encode digits percent_decode
+unfolding utf8_lossy utf8_valid_len utf8_error_len is_utf8 chars lib.Utf8.encode digits
 encrypted = refl
 
 -- a boundary in the header of a part that is no multipart opens nothing
 no_multipart : seen_in (codes "Content-Type: text/plain; boundary=b\n\n--b\n\nx\n--b--\n")
     ≡ row 0 (codes "text/plain") [] (codes "--b\n\nx\n--b--\n") true ∷ []
-unfolding utf8_lossy utf8_valid_len utf8_error_len is_utf8 chars lib.Utf8.encode digits percent_decode
+unfolding utf8_lossy utf8_valid_len utf8_error_len is_utf8 chars lib.Utf8.encode digits
 no_multipart = refl
 
 no_boundary : seen_in (codes "Content-Type: multipart/mixed; boundary=\"\"\n\n--\n\nx\n----\n")
     ≡ row 0 (codes "multipart/mixed") [] (codes "--\n\nx\n----\n") true ∷ []
-unfolding utf8_lossy utf8_valid_len utf8_error_len is_utf8 chars lib.Utf8.encode digits percent_decode
+unfolding utf8_lossy utf8_valid_len utf8_error_len is_utf8 chars lib.Utf8.encode digits
 no_boundary = refl
 
--- one boundary is a front of the other
+-- one boundary is a prefix of the other
 nested : seen_in (codes "Content-Type: multipart/a; boundary=b\n\n--b\nContent-Type: multipart/c; boundary=bb\n\n--bb\n\nx\n--bb--\n--b\n\ny\n--b--\n")
     ≡ row 0 (codes "multipart/a") [] (codes "--b\nContent-Type: multipart/c; boundary=bb\n\n--bb\n\nx\n--bb--\n--b\n\ny\n--b--\n") false
     ∷ row 1 (codes "multipart/c") [] (codes "--bb\n\nx\n--bb--") false
     ∷ row 2 (codes "text/plain") [] (codes "x") true
     ∷ row 1 (codes "text/plain") [] (codes "y") true ∷ []
-unfolding utf8_lossy utf8_valid_len utf8_error_len is_utf8 chars lib.Utf8.encode digits percent_decode
+unfolding utf8_lossy utf8_valid_len utf8_error_len is_utf8 chars lib.Utf8.encode digits
 nested = refl
 
 -- what a mail with an alternative and an attachment has
@@ -159,7 +158,7 @@ alternative_and_attachment : map few (seen_in plans)
     ∷ (2, codes "text/plain", [], true)
     ∷ (2, codes "text/html", [], true)
     ∷ (1, codes "application/pdf", codes "plan.pdf", true) ∷ []
-unfolding utf8_lossy utf8_valid_len utf8_error_len is_utf8 chars lib.Utf8.encode digits percent_decode
+unfolding utf8_lossy utf8_valid_len utf8_error_len is_utf8 chars lib.Utf8.encode digits
 alternative_and_attachment = refl
 
 -- each content, decoded, of nodes in a body
@@ -167,5 +166,5 @@ abbrev decoded : List ℕ → List PartNode → List (List ℕ)
 decoded body nodes = map (λ n. decode_body n.encoding (bytes_at body (record { start = n.start; end = n.end }))) nodes
 
 attachment_decoded : drop 4 (decoded (drop (header_of plans).body_at plans) (tree (header_of plans) (drop (header_of plans).body_at plans))) ≡ codes "%PDF-" ∷ []
-unfolding utf8_lossy utf8_valid_len utf8_error_len is_utf8 chars lib.Utf8.encode digits percent_decode
+unfolding utf8_lossy utf8_valid_len utf8_error_len is_utf8 chars lib.Utf8.encode digits
 attachment_decoded = refl

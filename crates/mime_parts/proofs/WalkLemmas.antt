@@ -57,7 +57,7 @@ All-reverse P (x ∷ xs) all =
     All-same P (reverse (x ∷ xs)) (reverse xs ++ x ∷ []) (reverse-append (x ∷ []) xs)
     (All-push P (reverse xs) x (All-reverse P xs (All-tail P x xs all)) (All-head P x xs all))
 
--- the work has places in so many bytes, and so has what was put on top of it
+-- the work is in so many bytes, and so has what was put on top of it
 pub work-within : (len levels : ℕ) (digest : Bool) (work more : List Work) (ss : List Span) → more ≡ work ++ reverse (map (work_at levels digest) ss)
     → All (λ w. IsWithin len w.span) work → All (IsWithin len) ss → All (λ w. IsWithin len w.span) more
 work-within len levels digest work more ss stacked old new =

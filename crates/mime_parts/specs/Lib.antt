@@ -1,9 +1,5 @@
-pub mod Pieces
-pub mod Pairs
-pub mod Sections
-pub mod Params
-pub mod Views
-pub mod Kinds
+-- What public clauses cite.
 pub mod Multiparts
 pub mod Trees
+-- What only proofs and private functions use.
 pub mod Walks

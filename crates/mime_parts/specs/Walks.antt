@@ -1,5 +1,5 @@
 -- Parts that are read one after the other, in preorder.
-use Rattle.std.specs.Prelude.{ℕ, ◌+◌, ◌≤◌, Bool, List, [], ◌∷◌, ◌++◌, length, reverse}
+use Rattle.std.specs.Prelude.{ℕ, ◌+◌, ◌≤◌, Bool, List, [], ◌∷◌, ◌++◌, length, reverse, Option, option_map}
 use Rattle.mime_parts.specs.declared.multipart.Span.{Span}
 use Rattle.mime_parts.specs.declared.part.PartNode.{PartNode}
 use Rattle.mime_parts.specs.declared.tree.Work.{Work}
@@ -19,10 +19,10 @@ walked body (w ∷ ws) known =
 abbrev pub coming : List ℕ → List PartNode → List Work → List PartNode
 coming body nodes work = nodes ++ walked body (reverse work) (length nodes + length work)
 
--- a place in so many bytes
+-- a span in so many bytes
 abbrev pub IsWithin : ℕ → Span → Type 0
 IsWithin len span = (span.start ≤ span.end) × (span.end ≤ len)
 
--- the content of a node stands in so many bytes
-abbrev pub IsNodeWithin : ℕ → PartNode → Type 0
-IsNodeWithin len node = (node.start ≤ node.end) × (node.end ≤ len)
+-- a part that is begun goes on to an offset
+abbrev pub extended : Option Span → ℕ → Option Span
+extended part end = option_map (λ span. record { start = span.start; end = end }) part

@@ -1,19 +1,12 @@
-//! The parts of a mail (RFC 2046, section 5.1), and what the fields Content-Type and Content-Disposition say of a part
-//! (RFC 2045, section 5; RFC 2183), with their parameters (RFC 2231).
+//! The parts of a mail (RFC 2046, section 5.1), with their content types and dispositions as `mime_fields` reads them.
 #![tactic(auto)]
 
-mod content_type;
-mod disposition;
+mod laws;
 mod multipart;
-mod pair;
-mod param;
 mod part;
-mod piece;
-mod section;
 mod tree;
 
-pub use content_type::{ContentType, read_content_type};
-pub use disposition::{Disposition, read_disposition};
-pub use param::Param;
+pub use laws::{lines_are_cut_by_the_grammar, no_byte_is_lost};
+pub use mime_fields::{ContentType, Disposition, Param, read_content_type, read_disposition};
 pub use part::{PartNode, is_kind};
 pub use tree::{PartTree, parts};

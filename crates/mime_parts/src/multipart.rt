@@ -1,29 +1,30 @@
 //! The parts of a multipart, by its delimiter lines.
 ghost use Rattle.std.specs.Prelude.{◌≡◌, ℕ, List, ◌<◌, ◌+◌, ◌^◌, ◌++◌, IfOk, OnOk, length, option_to_list};
-ghost use Rattle.mime_parts.specs.Multiparts.{closing_text, delimiter_text, is_only, reaching, spans};
+ghost use Rattle.mime_parts.specs.Multiparts.{closing_text, delimiter_text, is_only, spans};
+ghost use Rattle.mime_parts.specs.Walks.{extended};
 
-use kit::{Memory, content, is_blank};
+use kit::{Memory, content, is_blank, split_line};
 use std::alloc::Global;
 
-/// Where a part stands in the body of a mail.
+/// Where a part is in the body of a mail.
 #[derive(Clone, Copy, Debug, PartialEq, Eq)]
 pub struct Span {
     /// The offset of its first byte.
     pub start: usize,
-    /// The offset behind its last byte.
+    /// The offset after its last byte.
     pub end: usize,
 }
 
-/// Whether a line is a text, with nothing but white space behind it.
+/// Whether a line is a text, with nothing but white space after it.
 fn is_only(text: &[u8], line: &[u8]) -> bool
     ensures { result ≡ is_only text.now line.now }
 {
     line.starts_with(text) && is_blank(&line[text.len()..])
 }
 
-/// A part that goes on to a place, if one is begun.
-fn reaching(part: Option<Span>, end: usize) -> Option<Span>
-    ensures { result ≡ reaching part end }
+/// A part that goes on to an offset, if one is begun.
+fn extended(part: Option<Span>, end: usize) -> Option<Span>
+    ensures { result ≡ extended part end }
 {
     let Span { start, .. } = part?;
     Some(Span { start, end })
@@ -38,7 +39,7 @@ fn push_part(found: &mut Vec<Span>, part: Option<Span>) -> Result<(), Memory>
     Ok(())
 }
 
-/// Where the parts stand between delimiter lines of one text and a closing line of another.
+/// Where the parts are between delimiter lines of one text and a closing line of another.
 fn parts_between(
     alloc: Global,
     delimiter: &[u8],
@@ -53,7 +54,8 @@ fn parts_between(
     let mut found = Vec::new(alloc);
     let mut part = None;
     let mut at = start;
-    for raw in bytes.split_inclusive(|b| *b == b'\n') {
+    let mut left = bytes;
+    while let Some((raw, rest)) = split_line(left) {
         let line = content(raw);
         let next = at + raw.len();
         if is_only(closing, line) {
@@ -67,16 +69,18 @@ fn parts_between(
                 end: next,
             });
         } else {
-            part = reaching(part, at + line.len());
+            part = extended(part, at + line.len());
         }
         at = next;
+        left = rest;
     }
-    push_part(&mut found, reaching(part, at))?;
+    push_part(&mut found, extended(part, at))?;
     Ok(found)
 }
 
-/// Where the parts of a multipart stand, of which the content begins at a place: between the delimiter lines of its boundary,
-/// without the line end before each (RFC 2046, section 5.1.1). Takes memory, and time for one pass over the content.
+/// Where the parts of a multipart are, of which the content begins at an offset: between the delimiter lines of its
+/// boundary, without the line end before each (RFC 2046, section 5.1.1). Takes time for one pass over the content, and
+/// memory; `Err` only when it runs out.
 pub fn spans(
     alloc: Global,
     boundary: &[u8],

@@ -3,21 +3,20 @@ ghost use Rattle.std.specs.Prelude.{◌≡◌, Bool, IfOk};
 ghost use Rattle.std.specs.Option.{option_copied};
 ghost use Rattle.mime_parts.specs.Trees.{boundary_of, file_name, is_digest, is_kind, kind_of, node_of, part};
 
-use crate::content_type::{ContentType, content_type_in};
-use crate::disposition::read_disposition;
 use crate::multipart::Span;
 use kit::{Memory, Text};
 use mail_headers::Header;
+use mime_fields::{ContentType, content_type_in, read_disposition};
 use std::alloc::Global;
 use transfer_code::{Encoding, encoding_of};
 
 /// A part below this many others is not opened.
-pub const DEEPEST: u32 = 16;
+pub const MAX_DEPTH: u32 = 16;
 
 /// A part of a mail (RFC 2045, section 2.4).
 #[derive(Debug, Drop)]
 pub struct PartNode {
-    /// How many multiparts it stands in: 0 to 16, and 0 is the mail itself.
+    /// How many multiparts it is in: 0 to 16, and 0 is the mail itself.
     pub depth: u32,
     /// Its content type: where none was read it is text/plain, and message/rfc822 in a digest.
     pub kind: ContentType,
@@ -25,17 +24,17 @@ pub struct PartNode {
     pub encoding: Encoding,
     /// Whether its disposition says that it is an attachment (RFC 2183, section 2.2).
     pub attach: bool,
-    /// The file name that its disposition tells, or else its type; empty where none is told.
+    /// The file name that its disposition gives, or else its type; empty where none is given.
     pub name: Text,
-    /// Where its content begins, behind its own header, as an offset in the body of the mail.
+    /// Where its content begins, after its own header, as an offset in the body of the mail.
     pub start: usize,
-    /// The offset behind its content, no less than `start` and no more than the body has bytes.
+    /// The offset after its content, no less than `start` and no more than the body has bytes.
     pub end: usize,
     /// Whether no parts of it are in the tree: it is no multipart, or one that was not opened.
     pub leaf: bool,
 }
 
-/// The content type that a header tells, in a digest or elsewhere.
+/// The content type that a header gives, in a digest or elsewhere.
 pub fn kind_of(alloc: Global, digest: bool, header: &Header) -> Result<ContentType, Memory>
     ensures { IfOk result (λ kind. kind ≡ kind_of digest header.now) }
 {
@@ -56,8 +55,8 @@ pub fn is_digest(kind: &ContentType) -> bool
     is_kind(b"multipart", b"digest", kind)
 }
 
-/// The boundary at which a part of a type is cut (RFC 2046, section 5.1.1), if it is to be opened: that of a multipart, unless
-/// it is encrypted (RFC 1847, section 2.2).
+/// The boundary at which a part of a type is cut (RFC 2046, section 5.1.1), if it is to be opened: that of a multipart,
+/// unless it is encrypted (RFC 1847, section 2.2).
 pub fn boundary_of(kind: &ContentType) -> Option<&[u8]>
     ensures { option_copied result ≡ boundary_of kind.now }
 {
@@ -71,12 +70,12 @@ pub fn boundary_of(kind: &ContentType) -> Option<&[u8]>
     Some(boundary)
 }
 
-/// The file name, of that which a disposition tells.
-fn file_name(alloc: Global, told: Text, kind: &ContentType) -> Result<Text, Memory>
-    ensures { IfOk result (λ name. name ≡ file_name told kind.now) }
+/// The file name, of that which a disposition gives.
+fn file_name(alloc: Global, given: Text, kind: &ContentType) -> Result<Text, Memory>
+    ensures { IfOk result (λ name. name ≡ file_name given kind.now) }
 {
-    if !told.bytes().is_empty() {
-        return Ok(told);
+    if !given.bytes().is_empty() {
+        return Ok(given);
     }
     match kind.param(b"name") {
         Some(name) => name.copy(),
@@ -84,7 +83,7 @@ fn file_name(alloc: Global, told: Text, kind: &ContentType) -> Result<Text, Memo
     }
 }
 
-/// The node of a part of this header and type, whose content stands at a place.
+/// The node of a part of this header and type, and of this content.
 pub fn node_of(
     alloc: Global,
     header: &Header,
@@ -96,13 +95,13 @@ pub fn node_of(
     ensures { (digest : Bool) → kind ≡ kind_of digest header.now
         → IfOk result (λ node. node ≡ node_of levels digest (part header.now content) leaf) }
 {
-    let told = read_disposition(alloc, header.field(b"Content-Disposition"))?;
-    let name = file_name(alloc, told.name, &kind)?;
+    let disposition = read_disposition(alloc, header.field(b"Content-Disposition"))?;
+    let name = file_name(alloc, disposition.name, &kind)?;
     Ok(PartNode {
-        depth: DEEPEST.saturating_sub(levels),
+        depth: MAX_DEPTH.saturating_sub(levels),
         kind,
         encoding: encoding_of(header.field(b"Content-Transfer-Encoding")),
-        attach: told.attach,
+        attach: disposition.attach,
         name,
         start: content.start,
         end: content.end,

@@ -1,24 +1,22 @@
 //! The tree of the parts of a mail.
-ghost use Rattle.std.specs.Prelude.{◌≡◌, ◌≤◌, ◌+◌, ◌++◌, ℕ, List, All, IfOk, OnOk, length, map, reverse, vec_len};
-ghost use Rattle.kit.specs.Lines.{raw_lines};
-ghost use Rattle.mime_parts.specs.Multiparts.{IsCutAt, IsCutInto, cut, spans};
-ghost use Rattle.mime_parts.specs.Trees.{opened, tree};
-ghost use Rattle.mime_parts.specs.Walks.{IsNodeWithin, IsWithin, work_at};
+ghost use Rattle.std.specs.Prelude.{◌≡◌, ◌≤◌, ◌+◌, ◌++◌, All, IfOk, OnOk, length, map, reverse, vec_len};
+ghost use Rattle.mime_parts.specs.Trees.{IsNodeWithin, opened, tree};
+ghost use Rattle.mime_parts.specs.Walks.{IsWithin, work_at};
 
-use crate::content_type::ContentType;
 use crate::multipart::{Span, spans};
-use crate::part::{DEEPEST, PartNode, boundary_of, is_digest, kind_of, node_of};
+use crate::part::{MAX_DEPTH, PartNode, boundary_of, is_digest, kind_of, node_of};
 use kit::Memory;
 use mail_headers::{Header, read_header};
+use mime_fields::ContentType;
 use std::alloc::Global;
 
 /// No tree has more nodes.
-const MOST: usize = 1000;
+const MAX_NODES: usize = 1000;
 
 /// The parts of a mail (RFC 2046, section 5.1).
 #[derive(Debug, Drop)]
 pub struct PartTree {
-    /// The nodes in preorder, 1 to 1,000: the mail itself, and behind each multipart that was opened the nodes in it.
+    /// The nodes in preorder, 1 to 1,000: the mail itself, and after each multipart that was opened the nodes in it.
     pub nodes: Vec<PartNode>,
 }
 
@@ -27,14 +25,14 @@ pub struct PartTree {
 struct Work {
     /// How many levels may lie below it.
     levels: u32,
-    /// Whether it stands in a digest.
+    /// Whether it is in a digest.
     digest: bool,
-    /// Where its header and its content stand.
+    /// Where its header and its content are.
     span: Span,
 }
 
-/// Where the parts in a part stand, if it is opened: where so many levels may lie below it, and no more than 1,000 nodes are
-/// known with them.
+/// Where the parts in a part are, if it is opened: where so many levels may lie below it, and no more than 1,000 nodes
+/// are known with them.
 fn opened(
     alloc: Global,
     body: &[u8],
@@ -61,7 +59,7 @@ fn opened(
         &body[content.start..content.end],
         content.start,
     )?;
-    if found.len() > MOST - known {
+    if found.len() > MAX_NODES - known {
         return Ok(Vec::new(alloc));
     }
     Ok(found)
@@ -97,10 +95,10 @@ struct Walk {
 
 impl Walk {
     ghost use Rattle.std.specs.Prelude.{◌≡◌, ◌≤◌, ◌<◌, ◌+◌, ◌++◌, All, OnOk, length, reverse, vec_len};
-    ghost use Rattle.mime_parts.specs.Trees.{grown, part, part_at};
-    ghost use Rattle.mime_parts.specs.Walks.{IsNodeWithin, IsWithin, coming, walked};
+    ghost use Rattle.mime_parts.specs.Trees.{IsNodeWithin, grown, part, part_at};
+    ghost use Rattle.mime_parts.specs.Walks.{IsWithin, coming, walked};
 
-    /// Takes up a part of this header, whose content stands at the place of `next`.
+    /// Takes up a part of this header, whose content has the span of `next`.
     fn enter(
         &mut self,
         alloc: Global,
@@ -172,30 +170,25 @@ impl Walk {
     }
 }
 
-/// The parts of a mail of this header, and of the body behind it (RFC 2046, section 5.1). Any bytes are a body. Takes memory,
-/// and is `Err` only where there is none. Takes time for a pass over the body for each level that is opened.
+/// The parts of a mail of this header, and of the body after it (RFC 2046, section 5.1). Any bytes are a body. Takes time
+/// for a pass over the body for each level that is opened, and memory; `Err` only when it runs out.
 ///
-/// A part of type multipart is opened where it has a boundary that is not empty, unless it is encrypted (RFC 1847, section 2.2).
-/// Its parts are what stands between its delimiter lines: `--boundary`, with nothing but spaces and tabs behind it, and up to
-/// the closing line, `--boundary--` with the same behind it, or else the end. The line end before each belongs to it. A part
-/// is not opened where it has no delimiter line, stands at depth 16, or where the nodes known so far and its parts are more
-/// than 1,000; the nodes known are those of all multiparts that were opened before, in preorder.
+/// A part of type multipart is opened where it has a boundary that is not empty, unless it is encrypted (RFC 1847,
+/// section 2.2). Its parts are what is between its delimiter lines: `--boundary`, with nothing but spaces and tabs after
+/// it, and up to the closing line, `--boundary--` with the same after it, or else the end. The line end before each
+/// belongs to it. A part is not opened where it has no delimiter line, is at depth 16, or where the nodes known so far
+/// and its parts are more than 1,000; the nodes known are those of all multiparts that were opened before, in preorder.
 pub fn parts(alloc: Global, header: &Header, body: &[u8]) -> Result<PartTree, Memory>
     ensures nodes { IfOk result (λ read. read.nodes.items ≡ tree header.now body.now) }
     ensures few { IfOk result (λ read. (1 ≤ vec_len read.nodes) × (vec_len read.nodes ≤ 1000)) }
     ensures within { IfOk result (λ read. All (IsNodeWithin (length body.now)) read.nodes.items) }
-
-    // The lines of each multipart are cut as the grammar of the RFC has them, and of its bytes nothing is lost, and nothing is
-    // counted twice.
-    ensures grammar { (boundary : List ℕ) (bytes : List ℕ) → IsCutInto boundary (raw_lines bytes) (cut boundary (raw_lines bytes)) }
-    ensures whole { (boundary : List ℕ) (start : ℕ) (bytes : List ℕ) → IsCutAt boundary start bytes (spans boundary start bytes) }
 {
     let mut walk = Walk {
         nodes: Vec::new(alloc),
         work: Vec::new(alloc),
     };
     let root = Work {
-        levels: DEEPEST,
+        levels: MAX_DEPTH,
         digest: false,
         span: Span {
             start: 0,

@@ -1,4 +1,4 @@
--- The words of the devices' clauses.
+-- What public clauses cite.
 pub mod Causes
 pub mod Bytes
 pub mod Places

@@ -1,4 +1,4 @@
-//! What stands where no device is lent.
+//! What is lent where there is no device.
 ghost use Rattle.std.specs.Prelude.{◌≡◌, [], IsErr, Some};
 ghost use Rattle.outside.specs.Causes.{HasCause};
 
@@ -19,7 +19,7 @@ impl Source for NoSource {
     }
 }
 
-/// A shelf that refuses each call. It tells no contents.
+/// A shelf that refuses each call. No contents are known.
 #[derive(Drop)]
 pub struct NoShelf {
     faults: FaultCount,

@@ -1,3 +1,4 @@
+-- What public clauses cite.
 pub mod Receipts
 pub mod Updates
 pub mod Orders

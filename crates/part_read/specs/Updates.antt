@@ -1,5 +1,5 @@
--- The updates of an app, as a value of JSON has them (RFC 8259). Which value a text is, and which text a value has without
--- white space, is as `serde_json` states it: `read` and `compact_text`.
+-- The updates of an app, as a value of JSON has them (RFC 8259). Which value a text is, and which text a value has
+-- without white space, is as `serde_json` states it: `read` and `compact_text`.
 use Rattle.std.specs.Prelude.{ℕ, if◌then◌else◌, List, [], ◌∷◌, codes, Option, Some, None, Result, Err, option_map}
 use Rattle.std.specs.Option.{ok_or, option_map_or}
 use Rattle.std.specs.Str.{is_utf8}
@@ -18,7 +18,7 @@ use Rattle.part_read.specs.declared.fault.UpdateFault.TheVariants.{NoJson, NoLis
 abbrev pub json : List ℕ → Option Data
 json bytes = if is_utf8 bytes then read bytes else None
 
--- What an app is handed: a value as its text. One with a number that is no whole number of 64 bits is hidden.
+-- What an app is given: a value as its text. One with a number that is no whole number of 64 bits is hidden.
 abbrev pub payload : Option Data → Payload
 payload None = Absent
 payload (Some value) = if has_float value then Hidden else Json (compact_text value)

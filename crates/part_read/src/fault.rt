@@ -1,19 +1,23 @@
-//! Why a reader of updates is refused.
+//! Why bytes are no updates.
 ghost use Rattle.std.specs.Prelude.{◌≡◌, ◌⊎◌};
 ghost use Rattle.serde_json.specs.Errors.{IsMemory};
 ghost use Rattle.part_read.specs.declared.fault.UpdateFault.TheVariants as faults;
 
 use kit::Memory;
-use serde_json::Error;
+use serde_json::Error as JsonError;
+use thiserror::Error;
 
 /// Why bytes were not read as updates.
-#[derive(Clone, Copy, Debug, PartialEq, Eq)]
+#[derive(Clone, Copy, Debug, PartialEq, Eq, Error)]
 pub enum UpdateFault {
-    /// They are not UTF-8, or no JSON.
+    /// They are not UTF-8, or not JSON.
+    #[error("not UTF-8 or not JSON")]
     NoJson,
     /// They are JSON, and not an object with a list of objects.
+    #[error("no object with a list of updates")]
     NoList,
-    /// No memory was left.
+    /// Memory ran out.
+    #[error("out of memory")]
     Memory,
 }
 
@@ -25,10 +29,10 @@ impl From<Memory> for UpdateFault {
     }
 }
 
-impl From<Error> for UpdateFault {
+impl From<JsonError> for UpdateFault {
     ghost from_gives = { λ error fault. (IsMemory error × (fault ≡ faults.Memory)) ⊎ (¬ IsMemory error × (fault ≡ faults.NoJson)) };
 
-    fn from(error: Error) -> Self {
+    fn from(error: JsonError) -> Self {
         if error.is_memory() {
             UpdateFault::Memory
         } else {

@@ -1,17 +1,18 @@
-//! What an app is handed.
+//! What an app is given.
 ghost use Rattle.std.specs.Prelude.{◌≡◌, IfOk, IsTrue, option_map};
 ghost use Rattle.serde_json.specs.View.{view, items_view, members_view};
 ghost use Rattle.serde_json.specs.Written.{has_float, items_have_float, members_have_float};
-ghost use Rattle.card_type.specs.Rules.{is_payload};
+ghost use Rattle.card_type.specs.Rules.{is_nonempty_payload, is_utf8_payload};
 ghost use Rattle.part_read.specs.Updates.{payload};
 
+use crate::text::text_from;
 use card_type::Payload;
-use kit::{Memory, Text};
+use kit::Memory;
 use serde_json::{Map, Value};
 use std::alloc::Global;
 
-/// Whether a number in the value, at any depth, is no whole number that 64 bits hold, as serde_json reads it. Takes no
-/// memory, and a call for each level, of which a value that was read has at most 127.
+/// Whether a number in the value, at any depth, is no whole number of 64 bits, as serde_json reads it. Takes no memory,
+/// and a call for each level, of which a value that was read has at most 127.
 #[cycle(has_float)]
 fn has_float(value: &Value) -> bool
     ensures { result ≡ has_float (view value.now) }
@@ -48,10 +49,11 @@ fn members_have_float(members: &Map<String, Value>) -> bool
     false
 }
 
-/// What an app is handed of a value, which may be missing. Takes memory, and is `Err` only where there is none.
+/// What an app is given of a value, which may be missing. Takes memory; `Err` only when it runs out.
 pub fn payload(alloc: Global, value: Option<&Value>) -> Result<Payload, Memory>
     ensures value { IfOk result (λ read. read ≡ payload (option_map (λ v. view v.now) value.entry)) }
-    ensures rule { IfOk result (λ read. IsTrue (is_payload read)) }
+    ensures utf8 { IfOk result (λ read. IsTrue (is_utf8_payload read)) }
+    ensures nonempty { IfOk result (λ read. IsTrue (is_nonempty_payload read)) }
 {
     let Some(value) = value else {
         return Ok(Payload::Absent);
@@ -59,8 +61,5 @@ pub fn payload(alloc: Global, value: Option<&Value>) -> Result<Payload, Memory>
     if has_float(value) {
         return Ok(Payload::Hidden);
     }
-    let text = Text::from(value.to_string(alloc)?);
-    // Reading the text tells the proof that it is UTF-8.
-    let _utf8 = text.bytes();
-    Ok(Payload::Json(text))
+    Ok(Payload::Json(text_from(value.to_string(alloc)?)))
 }

@@ -2,16 +2,16 @@
 ghost use Rattle.std.specs.Prelude.{◌≡◌, ◌≢◌, IfOk, IfErr, IsTrue, Ok, Err, Some, None, option_map};
 ghost use Rattle.std.specs.List.{list_all};
 ghost use Rattle.std.specs.Str.{is_utf8};
-ghost use Rattle.serde_json.specs.Data.{Data};
 ghost use Rattle.serde_json.specs.View.{view, items_view};
 ghost use Rattle.card_type.specs.Rules.{where_some, is_update};
-ghost use Rattle.part_read.specs.Orders.{IsOrdered};
 ghost use Rattle.part_read.specs.Updates.{json, list_in, text_at, update, updates_of, updates};
 
 use crate::fault::UpdateFault;
 use crate::payload::payload;
-use card_type::{Items, Update};
+use crate::text::text_from;
+use card_type::Update;
 use kit::{Memory, Text};
+use lists::Items;
 use serde_json::Value;
 use std::alloc::Global;
 
@@ -29,9 +29,7 @@ fn text_at(alloc: Global, object: &Value, name: &str) -> Result<Option<Text>, Me
     let Some(text) = object.get(name).and_then(Value::as_str) else {
         return Ok(None);
     };
-    let text = Text::from(String::from_str(alloc, text)?);
-    let _utf8 = text.bytes();
-    Ok(Some(text))
+    Ok(Some(text_from(String::from_str(alloc, text)?)))
 }
 
 fn update(alloc: Global, object: &Value) -> Result<Update, Memory>
@@ -69,23 +67,21 @@ fn list_in(value: &Value) -> Option<&[Value]>
 }
 
 /// Reads the updates of an app from a value of JSON (RFC 8259): an object whose member `updates` is a list of objects,
-/// each of which is an update. Any bytes may be given, and they may have any length. Takes memory.
+/// each of which is an update. Any bytes of any length may be given. Takes memory.
 ///
-/// Of each object the member `payload` is what the app is handed, as a text without white space that has the members of each
-/// object in byte order of their names. It is `Hidden` where a number in it, at any depth, is no whole number of 64 bits, and
-/// `Absent` where there is no such member; `null` is a payload as any other. The members `info`, `document` and `summary` are
-/// kept where they are strings. Other members are passed over. Of members with one name the last one counts.
+/// Of each object the member `payload` is what the app is given, as a text without white space that has the members of
+/// each object in byte order of their names. It is `Hidden` where a number in it, at any depth, is no whole number of
+/// 64 bits, and `Absent` where there is no such member; `null` is a payload as any other. The members `info`,
+/// `document` and `summary` are kept where they are strings. Other members are passed over. Of members with one name
+/// the last one counts.
 ///
-/// `NoJson` comes only where the bytes are not UTF-8 or no JSON, which is none where it nests deeper than 127 or has a number
-/// that is too large for a float. `NoList` comes only where the value is not such an object. `Memory` comes only where there
-/// is none left.
-#[tactic(auto, using(crate::proofs::OrderLemmas::json_ordered))]
+/// `NoJson` comes only where the bytes are not UTF-8 or not JSON; a value that nests deeper than 127, or has a number
+/// that is too large for a float, is not JSON here. `NoList` comes only where the value is not such an object, and
+/// `Memory` only when memory runs out.
 pub fn read_updates(alloc: Global, bytes: &[u8]) -> Result<Items<Update>, UpdateFault>
     ensures ok { IfOk result (λ read. updates bytes.now ≡ Ok read) }
     ensures err { IfErr result (λ fault. fault ≢ UpdateFault.Memory → updates bytes.now ≡ Err fault) }
     ensures rules { IfOk result (λ read. IsTrue (list_all is_update read)) }
-    // Each object has its members in byte order, and `compact_text` writes them as they stand.
-    ensures ordered { (value : Data) → json bytes.now ≡ Some value → IsOrdered value }
 {
     let value = json(alloc, bytes)?;
     let values = list_in(&value).ok_or(UpdateFault::NoList)?;

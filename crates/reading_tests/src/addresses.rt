@@ -4,7 +4,7 @@ use mail_address::{Person, people};
 use std::alloc::Global;
 use std::test::Fail;
 
-// the body of a field, and its people: each with its address in angles, and the name behind it
+// the body of a field, and its people: each with its address in angles, and the name after it
 const EXAMPLES: [(&str, &str); 17] = [
     // RFC 5322, appendix A.1.1 to A.1.3.
     (
@@ -148,7 +148,7 @@ fn obsolete_and_broken_bodies(rt: HostRuntime) -> Result<(), Fail> {
 #[test]
 fn long_bodies_of_people(rt: HostRuntime) -> Result<(), Fail> {
     let alloc = rt.alloc();
-    // a part, how often it stands before `a@b`, how many people there are
+    // a part, how often it comes before `a@b`, how many people there are
     let cases = [
         ("a@b,", 20_000, 20_001),
         ("Joe <a@b>,", 20_000, 20_001),

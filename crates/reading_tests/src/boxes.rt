@@ -6,14 +6,14 @@ use outside::{Failed, MemorySource, QuietSource, Source};
 use std::alloc::Global;
 use std::test::Fail;
 
-/// A box, and what a reader answers of it: each mail in brackets with the place where it ends, and then `end`.
+/// A box, and what a reader answers of it: each mail in brackets with the offset where it ends, and then `end`.
 const BOXES: [(&str, &str); 14] = [
     (
         "From -\nA: b\n\n>From x\nFrom y\n\nFrom -\nC: d\n",
         "[A: b\n\nFrom x\nFrom y\n|29][C: d\n|41]end",
     ),
     ("", "end"),
-    // What stands before the first separator is no mail, and `From ` without an empty line before it is none.
+    // What precedes the first separator is no mail, and `From ` without an empty line before it is none.
     ("x\n\nFrom\n", "end"),
     ("x\nFrom -\n", "end"),
     ("x\n\nFrom -\na\n", "[a\n|12]end"),
@@ -32,7 +32,7 @@ const BOXES: [(&str, &str); 14] = [
         "From -\r\na\r\n\r\nFrom -\r\n>From \r\n\r\n\rFrom \r\r\n\r",
         "[a\r\n|13][From \r\n\r\n\rFrom \r\r\n\r|41]end",
     ),
-    // A front of `From ` behind an empty line, at the end and before other bytes.
+    // A prefix of `From ` after an empty line, at the end and before other bytes.
     ("From -\na\n\nFro", "[a\n\nFro|13]end"),
     (
         "From -\n\nFrom\n\r\nF\n\nFromage\n",
@@ -41,13 +41,13 @@ const BOXES: [(&str, &str); 14] = [
     ("From -\n\n>>From", "[\n>>From|14]end"),
 ];
 
-/// A mail and the place where it ended.
+/// A mail and the offset where it ended.
 fn written(alloc: Global, mail: &[u8], place: u64) -> Result<String, Fail> {
     let mail = String::from_utf8_lossy(alloc, mail)?;
     Ok(format!(in alloc; "[{mail}|{place}]")?)
 }
 
-/// An answer, and the place behind it.
+/// An answer, and the offset after it.
 fn answer(alloc: Global, taken: Result<Taken, BoxFault>, place: u64) -> Result<String, Fail> {
     match taken {
         Ok(Taken::Mail(mail)) => written(alloc, &mail, place),
@@ -77,7 +77,7 @@ fn answers<S: Source>(
     Ok(text)
 }
 
-/// A source of the byte `x` without end. It tells no bytes.
+/// A source of the byte `x` without end. No bytes are known.
 #[derive(Drop)]
 struct Endless;
 
@@ -93,12 +93,12 @@ impl Source for Endless {
 }
 
 #[test]
-fn mails_come_alike_in_any_pieces(rt: HostRuntime) -> Result<(), Fail> {
+fn mails_come_alike_in_chunks_of_any_size(rt: HostRuntime) -> Result<(), Fail> {
     let alloc = rt.alloc();
     for (text, expected) in BOXES {
-        for piece in [1, 2, 3, 4, 5, 6, 7, 64] {
+        for chunk_len in [1, 2, 3, 4, 5, 6, 7, 64] {
             let mut source = QuietSource::new(text.as_bytes().to_vec(alloc)?);
-            let mut reader = MboxReader::new(alloc, piece, 1000)?;
+            let mut reader = MboxReader::new(alloc, chunk_len, 1000)?;
             let found = answers(alloc, &mut reader, &mut source)?;
             assert_eq!(rt; found.as_str(), expected);
         }
@@ -115,7 +115,7 @@ fn an_endless_source_is_refused_at_the_budget(rt: HostRuntime) -> Result<(), Fai
 }
 
 #[test]
-fn a_failing_source_is_refused_behind_the_mails_before(rt: HostRuntime) -> Result<(), Fail> {
+fn a_failing_source_is_refused_after_the_mails_before(rt: HostRuntime) -> Result<(), Fail> {
     let alloc = rt.alloc();
     let bytes = b"From -\na\n\nFrom -\nb\n".as_slice().to_vec(alloc)?;
     let mut source = MemorySource::new(bytes, [2].to_vec(alloc)?);

@@ -1,7 +1,8 @@
 //! Cards of mails: each field of the cards of the worked mails, the rules at their edges, and mails that have no card.
-use card_type::{Attachment, Card, Items, Payload, Update, is_valid, weight};
+use card_type::{Attachment, Card, Payload, Update, is_valid, weight};
 use chat_card::{CardFault, read_card};
 use kit::{Addr, Id, Memory};
+use lists::Items;
 use std::alloc::Global;
 use std::test::Fail;
 
@@ -470,7 +471,7 @@ fn with_text(alloc: Global, length: usize, end: &str) -> Result<String, Memory> 
     Ok(mail)
 }
 
-/// How many times `x` a text has, what stands behind them, how many bytes are kept of both, and whether that is a cut.
+/// How many times `x` a text has, what follows them, how many bytes are kept of both, and whether that is a cut.
 const CUTS: [(usize, &str, usize, bool); 7] = [
     (32_768, "", 32_768, false),
     (32_768, "x", 32_768, true),

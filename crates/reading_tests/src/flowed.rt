@@ -4,7 +4,7 @@ use kit::{Memory, Text};
 use std::alloc::Global;
 use std::test::Fail;
 
-/// A flowed text, whether DelSp is `yes`, and the text that it stands for.
+/// A flowed text, whether DelSp is `yes`, and the text that it makes.
 const FLOWED: [(&str, bool, &str); 17] = [
     (
         "Hello \nworld\n> a \n> b\n-- \nfoot",
@@ -48,7 +48,7 @@ const FLOWED: [(&str, bool, &str); 17] = [
     ("", true, ""),
 ];
 
-/// A text, and what stands above its signature.
+/// A text, and what is above its signature.
 const SIGNED: [(&str, &str); 7] = [
     ("Hello world\n> a b\n-- \nfoot", "Hello world\n> a b"),
     ("a\r\n\r\n-- \r\nfoot\r\n", "a\n"),

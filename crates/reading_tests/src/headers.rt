@@ -18,7 +18,7 @@ fn header_of(alloc: Global, mail: &str) -> Result<Header, Fail> {
     Ok(read_header(alloc, mail.as_bytes())?)
 }
 
-/// The ids, each with a space behind it.
+/// The ids, each with a space after it.
 fn listed(alloc: Global, ids: &[Id]) -> Result<Vec<u8>, Fail> {
     let mut listed = Vec::new(alloc);
     for id in ids {
@@ -93,7 +93,7 @@ fn bodies_of_fields(rt: HostRuntime) -> Result<(), Fail> {
 #[test]
 fn fields_are_counted_and_bodies_found(rt: HostRuntime) -> Result<(), Fail> {
     let alloc = rt.alloc();
-    // the mail, the number of its fields, what stands from the place of the body on
+    // the mail, the number of its fields, what the mail has from the offset of the body on
     let cases = [
         (REPLY, 8, "This is a reply to your hello.\r\n"),
         (
@@ -125,7 +125,7 @@ fn fields_are_counted_and_bodies_found(rt: HostRuntime) -> Result<(), Fail> {
 #[test]
 fn ids_of_bodies(rt: HostRuntime) -> Result<(), Fail> {
     let alloc = rt.alloc();
-    // the body of a field, its ids with a space behind each
+    // the body of a field, its ids with a space after each
     let cases = [
         ("<a@b> <c @d>", "a@b c@d "),
         ("a@b see c@d", "a@b c@d "),
@@ -172,7 +172,7 @@ fn long_headers_are_read(rt: HostRuntime) -> Result<(), Fail> {
 #[test]
 fn long_bodies_are_read(rt: HostRuntime) -> Result<(), Fail> {
     let alloc = rt.alloc();
-    // a part that stands many times, how many ids there are
+    // a part that comes many times, how many ids there are
     let cases = [
         ("<a@b>", 20_000),
         ("a@b ", 20_000),

@@ -4,7 +4,7 @@ use mime_parts::{ContentType, read_content_type, read_disposition};
 use std::alloc::Global;
 use std::test::Fail;
 
-/// The body of a Content-Type field, and what it says: the type, and each parameter behind a `;`.
+/// The body of a Content-Type field, and what it says: the type, and each parameter after a `;`.
 const TYPES: [(&str, &str); 27] = [
     ("broken", "text/plain"),
     ("", "text/plain"),

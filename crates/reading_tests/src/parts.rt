@@ -18,7 +18,7 @@ const SIMPLE: &str =
 const DIGEST: &str =
     "From: Moderator-Address\nTo: Recipient-List\nDate: Mon, 22 Mar 1994 13:34:51 +0000\nSubject: Internet Digest, volume 42\nMIME-Version: 1.0\nContent-Type: multipart/mixed;\n              boundary=\"---- main boundary ----\"\n\n------ main boundary ----\n\n  ...Introductory text or table of contents...\n\n------ main boundary ----\nContent-Type: multipart/digest;\n              boundary=\"---- next message ----\"\n\n------ next message ----\n\nFrom: someone-else\nDate: Fri, 26 Mar 1993 11:13:32 +0200\nSubject: my opinion\n\n  ...body goes here ...\n\n------ next message ----\n\nFrom: someone-else-again\nDate: Fri, 26 Mar 1993 10:07:13 -0500\nSubject: my different opinion\n\n  ... another body goes here ...\n\n------ next message ------\n\n------ main boundary ------\n";
 
-/// A mail, and of each node in its tree the depth, the type and the file name, and, of a leaf, the content behind a `:`.
+/// A mail, and of each node in its tree the depth, the type and the file name, and, of a leaf, the content after a `:`.
 const TREES: [(&str, &str); 18] = [
     ("", "0 text/plain :|"),
     ("A: b\n\nHi\n", "0 text/plain :Hi\n|"),
@@ -34,12 +34,12 @@ const TREES: [(&str, &str); 18] = [
         PLANS,
         "0 multipart/mixed |1 multipart/alternative |2 text/plain :See the file.|2 text/html :<p>See the file.</p>|1 application/pdf plan.pdf:JVBERi0=|",
     ),
-    // One boundary is a front of the other.
+    // One boundary is a prefix of the other.
     (
         "Content-Type: multipart/a; boundary=b\n\n--b\nContent-Type: multipart/c; boundary=bb\n\n--bb\n\nx\n--bb--\n--b\n\ny\n--b--\n",
         "0 multipart/a |1 multipart/c |2 text/plain :x|1 text/plain :y|",
     ),
-    // A boundary in a quoted string, with a quoted pair.
+    // A boundary in a quoted string, with a quoted-pair.
     (
         "Content-Type: multipart/a; boundary=\"b;\\\"c\"\n\n--b;\"c\n\nx\n--b;\"c--\n",
         "0 multipart/a |1 text/plain :x|",
@@ -49,7 +49,7 @@ const TREES: [(&str, &str); 18] = [
         "Content-Type: multipart/a; boundary=b\n\n--b\n\nx\n--b\n\ny\n",
         "0 multipart/a |1 text/plain :x|1 text/plain :y\n|",
     ),
-    // White space behind a delimiter line, and before it.
+    // White space after a delimiter line, and before it.
     (
         "Content-Type: multipart/a; boundary=b\n\n--b \t\n\nx\n --b\n--b-- \n",
         "0 multipart/a |1 text/plain :x\n --b|",

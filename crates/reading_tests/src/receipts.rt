@@ -8,7 +8,7 @@ use std::test::Fail;
 const DISPLAYED: &str =
     "Reporting-UA: joes-pc.cs.example.com; Foomail 97.1\r\nOriginal-Recipient: rfc822;Joe_Recipient@example.com\r\nFinal-Recipient: rfc822;Joe_Recipient@example.com\r\nOriginal-Message-ID: <199509192301.23456@example.org>\r\nDisposition: manual-action/MDN-sent-manually; displayed\r\n";
 
-/// What stands in the part of a mail, and the id of the mail that was displayed, or nothing.
+/// The content of the part of a mail, and the id of the mail that was displayed, or nothing.
 const RECEIPTS: [(&str, &str); 21] = [
     (DISPLAYED, "199509192301.23456@example.org"),
     (
@@ -87,7 +87,7 @@ const RECEIPTS: [(&str, &str); 21] = [
 ];
 
 /// The id that is read, or nothing.
-fn told(alloc: Global, bytes: &[u8]) -> Result<Vec<u8>, Memory> {
+fn read_back(alloc: Global, bytes: &[u8]) -> Result<Vec<u8>, Memory> {
     match read_receipt(alloc, bytes)? {
         Some(id) => Ok(Vec::from_slice(alloc, id.bytes())?),
         None => Ok(Vec::new(alloc)),
@@ -98,7 +98,7 @@ fn told(alloc: Global, bytes: &[u8]) -> Result<Vec<u8>, Memory> {
 fn ids_of_displayed_mails(rt: HostRuntime) -> Result<(), Fail> {
     let alloc = rt.alloc();
     for (bytes, id) in RECEIPTS {
-        let found = told(alloc, bytes.as_bytes())?;
+        let found = read_back(alloc, bytes.as_bytes())?;
         assert_eq!(rt; found.as_slice(), id.as_bytes(), "receipt of {bytes:?}");
     }
     Ok(())

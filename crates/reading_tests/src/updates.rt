@@ -6,7 +6,7 @@ use std::alloc::Global;
 use std::test::Fail;
 
 /// A text, and each update in it: its payload, which is `-` where there is none and `?` where it is hidden, and its texts
-/// behind ` i:`, ` d:` and ` s:`. Where there are none, why.
+/// after ` i:`, ` d:` and ` s:`. Where there are none, why.
 const UPDATES: [(&str, &str); 42] = [
     ("{", "NoJson"),
     ("{\"updates\":1}", "NoList"),
@@ -129,7 +129,7 @@ fn listed(alloc: Global, bytes: &[u8]) -> Result<String, UpdateFault> {
 }
 
 /// The updates as in the table, or why there are none.
-fn told(alloc: Global, bytes: &[u8]) -> Result<String, Memory> {
+fn read_back(alloc: Global, bytes: &[u8]) -> Result<String, Memory> {
     match listed(alloc, bytes) {
         Ok(listed) => Ok(listed),
         Err(UpdateFault::NoJson) => Ok(String::from_str(alloc, "NoJson")?),
@@ -151,7 +151,7 @@ fn nested(alloc: Global, levels: usize) -> Result<String, Memory> {
 fn updates_of_texts(rt: HostRuntime) -> Result<(), Fail> {
     let alloc = rt.alloc();
     for (text, expected) in UPDATES {
-        let found = told(alloc, text.as_bytes())?;
+        let found = read_back(alloc, text.as_bytes())?;
         assert_eq!(rt; found.as_str(), expected, "updates of {text:?}");
     }
     Ok(())
@@ -159,7 +159,7 @@ fn updates_of_texts(rt: HostRuntime) -> Result<(), Fail> {
 
 #[test]
 fn bytes_that_are_no_text(rt: HostRuntime) -> Result<(), Fail> {
-    let found = told(rt.alloc(), b"{\"updates\":[{\"info\":\"\xFF\"}]}")?;
+    let found = read_back(rt.alloc(), b"{\"updates\":[{\"info\":\"\xFF\"}]}")?;
     assert_eq!(rt; found.as_str(), "NoJson");
     Ok(())
 }
@@ -168,9 +168,9 @@ fn bytes_that_are_no_text(rt: HostRuntime) -> Result<(), Fail> {
 #[test]
 fn updates_of_127_levels_and_of_128(rt: HostRuntime) -> Result<(), Fail> {
     let alloc = rt.alloc();
-    let deep = told(alloc, nested(alloc, 124)?.as_bytes())?;
+    let deep = read_back(alloc, nested(alloc, 124)?.as_bytes())?;
     assert_eq!(rt; deep.len(), 249);
-    let too_deep = told(alloc, nested(alloc, 125)?.as_bytes())?;
+    let too_deep = read_back(alloc, nested(alloc, 125)?.as_bytes())?;
     assert_eq!(rt; too_deep.as_str(), "NoJson");
     Ok(())
 }

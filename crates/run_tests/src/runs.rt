@@ -86,7 +86,7 @@ pub fn ended_by<C: Clock>(
     Ok((status, String::from_utf8_lossy(alloc, out.bytes())?))
 }
 
-/// The same by a clock that stands at 1970.
+/// The same by a clock that is at 1970.
 pub fn ended(
     alloc: Global,
     words: &[&str],
@@ -105,15 +105,15 @@ pub fn ended(
 }
 
 /// The same without a steps file, where no device fails.
-pub fn told(alloc: Global, words: &[&str], mbox: &str) -> Result<(Status, String), Fail> {
+pub fn answered(alloc: Global, words: &[&str], mbox: &str) -> Result<(Status, String), Fail> {
     let mut mbox = source(alloc, mbox, NEVER)?;
     ended(alloc, words, &mut mbox, None, NEVER)
 }
 
-/// The mail M1 with another text in place of a part of it.
+/// The mail M1 with another text instead of a part of it.
 fn changed(alloc: Global, part: &str, by: &str) -> Result<String, Fail> {
-    let (front, back) = M1.split_once(part).ok_or("no such part")?;
-    Ok(format!(in alloc; "{front}{by}{back}")?)
+    let (before, after) = M1.split_once(part).ok_or("no such part")?;
+    Ok(format!(in alloc; "{before}{by}{after}")?)
 }
 
 fn mail(alloc: Global, from: &str, date: &str, id: &str, text: &str) -> Result<String, Fail> {
@@ -157,7 +157,7 @@ fn a_steps_file_is_not_read_yet(rt: HostRuntime) -> Result<(), Fail> {
 #[test]
 fn each_rule_of_a_plain_mbox_is_broken_once(rt: HostRuntime) -> Result<(), Fail> {
     let alloc = rt.alloc();
-    // a part of M1, and what stands in its place
+    // a part of M1, and what replaces it
     let cases = [
         ("1.0\n", "1.0\nSubject: Hi\n"),
         ("1.0\n", "1.0\nChat-Edit: <m1@x.org>\n"),
@@ -192,7 +192,7 @@ fn each_rule_of_a_plain_mbox_is_broken_once(rt: HostRuntime) -> Result<(), Fail>
     ];
     for (part, by) in cases {
         let mbox = changed(alloc, part, by)?;
-        let (end, text) = told(alloc, &LIST, mbox.as_str())?;
+        let (end, text) = answered(alloc, &LIST, mbox.as_str())?;
         assert_eq!(rt; end, Status::Unbuilt, "{part} by {by}");
         assert_eq!(rt; text.as_str(), UNBUILT);
     }
@@ -209,14 +209,14 @@ fn several_mails_that_are_not_plain(rt: HostRuntime) -> Result<(), Fail> {
         format!(in alloc; "{M1}\n")?,
     ];
     for mbox in &cases {
-        let (end, text) = told(alloc, &LIST, mbox.as_str())?;
+        let (end, text) = answered(alloc, &LIST, mbox.as_str())?;
         assert_eq!(rt; end, Status::Unbuilt);
         assert_eq!(rt; text.as_str(), UNBUILT);
     }
     Ok(())
 }
 
-/// 1,024 mails of 1,024 bytes each, but for the last, which has so many bytes of text in place of 897.
+/// 1,024 mails of 1,024 bytes each, but for the last, which has so many bytes of text instead of 897.
 fn large_box(alloc: Global, last: usize) -> Result<String, Fail> {
     let mut mbox = String::new(alloc);
     for i in 0..1024u32 {
@@ -240,13 +240,13 @@ fn large_box(alloc: Global, last: usize) -> Result<String, Fail> {
 #[test]
 fn a_plain_mbox_has_at_most_1048576_bytes(rt: HostRuntime) -> Result<(), Fail> {
     let alloc = rt.alloc();
-    let (end, text) = told(alloc, &LIST, large_box(alloc, 897)?.as_str())?;
+    let (end, text) = answered(alloc, &LIST, large_box(alloc, 897)?.as_str())?;
     assert_eq!(rt; end, Status::Ok);
     assert_eq!(rt;
         text.as_str(),
         "single:bob@x.org | Bob | fresh 1024 | 2024-05-01 10:00 | aaaaaaaaaaaaaaaaaaaaaaaaaaaaaaaaaaaaaaaaaaaaaaaaaaaaaaaaaaaa\n"
     );
-    let (end, text) = told(alloc, &LIST, large_box(alloc, 898)?.as_str())?;
+    let (end, text) = answered(alloc, &LIST, large_box(alloc, 898)?.as_str())?;
     assert_eq!(rt; end, Status::Unbuilt);
     assert_eq!(rt; text.as_str(), UNBUILT);
     Ok(())
@@ -259,10 +259,10 @@ fn a_text_has_at_most_900_bytes(rt: HostRuntime) -> Result<(), Fail> {
     for _ in 0..900 {
         text.push('a')?;
     }
-    let (end, _line) = told(alloc, &LIST, changed(alloc, "Hi", text.as_str())?.as_str())?;
+    let (end, _line) = answered(alloc, &LIST, changed(alloc, "Hi", text.as_str())?.as_str())?;
     assert_eq!(rt; end, Status::Ok);
     text.push('a')?;
-    let (end, _line) = told(alloc, &LIST, changed(alloc, "Hi", text.as_str())?.as_str())?;
+    let (end, _line) = answered(alloc, &LIST, changed(alloc, "Hi", text.as_str())?.as_str())?;
     assert_eq!(rt; end, Status::Unbuilt);
     Ok(())
 }
@@ -270,7 +270,7 @@ fn a_text_has_at_most_900_bytes(rt: HostRuntime) -> Result<(), Fail> {
 /// The sender, the date, the id and the text of a mail.
 type Parts = (&'static str, &'static str, &'static str, &'static str);
 
-/// The parts of two mails behind M1, and the list of the three.
+/// The parts of two mails after M1, and the list of the three.
 const LISTS: [(Parts, Parts, &str); 5] = [
     // the latest first
     (
@@ -336,7 +336,7 @@ const LISTS: [(Parts, Parts, &str); 5] = [
         ),
         "single:bob@x.org | Robert | fresh 3 | 2024-05-01 10:00 | Second\n",
     ),
-    // a date behind the moment is shown at the moment, and a long text is cut
+    // a date after the moment is shown at the moment, and a long text is cut
     (
         (
             "ann@x.org",
@@ -361,7 +361,7 @@ fn lists_of_plain_mboxes(rt: HostRuntime) -> Result<(), Fail> {
         let second = mail(alloc, second.0, second.1, second.2, second.3)?;
         let third = mail(alloc, third.0, third.1, third.2, third.3)?;
         let mbox = format!(in alloc; "{M1}{second}{third}")?;
-        let (end, text) = told(alloc, &LIST, mbox.as_str())?;
+        let (end, text) = answered(alloc, &LIST, mbox.as_str())?;
         assert_eq!(rt; end, Status::Ok);
         assert_eq!(rt; text.as_str(), list);
     }
@@ -378,7 +378,7 @@ fn the_last_moment_is_shown(rt: HostRuntime) -> Result<(), Fail> {
         "m9@x.org",
         "Hi",
     )?;
-    let (end, text) = told(alloc, &LAST, mbox.as_str())?;
+    let (end, text) = answered(alloc, &LAST, mbox.as_str())?;
     assert_eq!(rt; end, Status::Ok);
     assert_eq!(rt;
         text.as_str(),

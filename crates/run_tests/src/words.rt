@@ -1,7 +1,7 @@
 //! The words of a command line: which runs they start, and when the clock is asked.
 ghost use Rattle.std.specs.Prelude.{⊤, None};
 
-use crate::runs::{M1, M1_LINE, NEVER, UNBUILT, ended, ended_by, source, told};
+use crate::runs::{M1, M1_LINE, NEVER, UNBUILT, answered, ended, ended_by, source};
 use follow::Status;
 use kit::LAST_MOMENT;
 use outside::Clock;
@@ -81,19 +81,19 @@ const LISTS: [&str; 7] = [
 ];
 
 /// How a run of the words between the spaces ends, and what it puts.
-fn told_line(alloc: Global, line: &str) -> Result<(Status, String), Fail> {
+fn run_line(alloc: Global, line: &str) -> Result<(Status, String), Fail> {
     let words = line.split(' ').collect::<Vec<&str>>(alloc)?;
-    told(alloc, &words, M1)
+    answered(alloc, &words, M1)
 }
 
 #[test]
 fn words_that_are_no_command(rt: HostRuntime) -> Result<(), Fail> {
     let alloc = rt.alloc();
-    let (end, text) = told(alloc, &[], M1)?;
+    let (end, text) = answered(alloc, &[], M1)?;
     assert_eq!(rt; end, Status::Usage);
     assert_eq!(rt; text.as_str(), USAGE);
     for line in NO_COMMANDS {
-        let (end, text) = told_line(alloc, line)?;
+        let (end, text) = run_line(alloc, line)?;
         assert_eq!(rt; end, Status::Usage, "{line}");
         assert_eq!(rt; text.as_str(), USAGE);
     }
@@ -118,7 +118,7 @@ fn commands_that_are_not_answered_yet(rt: HostRuntime) -> Result<(), Fail> {
 fn one_plain_mail_by_many_words(rt: HostRuntime) -> Result<(), Fail> {
     let alloc = rt.alloc();
     for line in LISTS {
-        let (end, text) = told_line(alloc, line)?;
+        let (end, text) = run_line(alloc, line)?;
         assert_eq!(rt; end, Status::Ok, "{line}");
         assert_eq!(rt; text.as_str(), M1_LINE);
     }
@@ -129,10 +129,10 @@ fn one_plain_mail_by_many_words(rt: HostRuntime) -> Result<(), Fail> {
         "1714564800",
         "list",
     ];
-    let (end, text) = told(alloc, &words, M1)?;
+    let (end, text) = answered(alloc, &words, M1)?;
     assert_eq!(rt; end, Status::Ok);
     assert_eq!(rt; text.as_str(), M1_LINE);
-    let (end, text) = told(alloc, &["--me", "", "list"], M1)?;
+    let (end, text) = answered(alloc, &["--me", "", "list"], M1)?;
     assert_eq!(rt; end, Status::Usage);
     assert_eq!(rt; text.as_str(), USAGE);
     Ok(())
@@ -157,7 +157,7 @@ impl Clock for CountingClock {
 }
 
 #[test]
-fn the_clock_is_asked_once_where_no_moment_is_told(rt: HostRuntime) -> Result<(), Fail> {
+fn the_clock_is_asked_once_where_no_moment_is_given(rt: HostRuntime) -> Result<(), Fail> {
     let alloc = rt.alloc();
     // M1 arrives half an hour before its date
     let early = "single:bob@x.org | Bob | fresh 1 | 2024-05-01 09:30 | Hi\n";

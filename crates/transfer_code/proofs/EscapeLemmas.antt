@@ -1,22 +1,20 @@
--- Escapes one after the other, and the relation between bytes and what they stand for.
-use Rattle.std.proofs.Common.{◌≡◌, ℕ, zero, suc, ◌+◌, ◌*◌, ◌<◌, List, [], ◌∷◌, ◌++◌, length, get_or, drop, Option, Some, None, refl, sym, ap, ◌∙◌, inl, inr, append_assoc}
+-- Escapes one after the other, and the relation between bytes and what they decode to.
+use Rattle.std.proofs.Common.{◌≡◌, ℕ, ◌+◌, ◌*◌, ◌<◌, List, [], ◌∷◌, ◌++◌, length, get_or, drop, Option, Some, None, refl, sym, ap, ◌∙◌, inl, inr, append_assoc}
 use Rattle.std.proofs.lemmas.Bool.{cases_eq, eq-eqb, ne_eqb}
 use Rattle.std.proofs.lemmas.List.{drop_more, drop-drop}
 use Rattle.std.specs.Prelude.{option_and_then, option_map}
-use Rattle.transfer_code.specs.Escapes.{Unescapes, at_end, escape, stands, digit_of, escape_in, unescaped, unescaped_behind}
-
--- what an escape takes is passed over
-passed : (k : ℕ) (bs : List ℕ) → unescaped_behind k bs ≡ unescaped (drop k bs)
-passed zero bs = refl
-passed (suc k) [] = refl
-passed (suc k) (b ∷ bs) = passed k bs
+use Rattle.transfer_code.specs.Escapes.{Unescapes, at_end, escape, itself, digit_of, escape_in, unescaped}
 
 pub at_escape : (v : ℕ) (bs : List ℕ) → escape_in bs ≡ Some v → unescaped bs ≡ v ∷ unescaped (drop 3 bs)
 at_escape v [] e = absurd cc
-at_escape v (b ∷ bs) e = rw e (ap (λ (t : List ℕ). v ∷ t) (passed 2 bs))
+at_escape v (b ∷ []) e = absurd cc
+at_escape v (b ∷ c ∷ []) e = absurd cc
+at_escape v (b ∷ high ∷ low ∷ bs) e = rw e refl
 
 pub at_other : (b : ℕ) (bs : List ℕ) → escape_in (b ∷ bs) ≡ None → unescaped (b ∷ bs) ≡ b ∷ unescaped bs
-at_other b bs e = rw e refl
+at_other b [] e = refl
+at_other b (c ∷ []) e = refl
+at_other b (high ∷ low ∷ bs) e = rw e refl
 
 -- ---- a loop over the bytes
 
@@ -41,14 +39,14 @@ pub of_digits : (high low h l : ℕ) (bs : List ℕ) → digit_of high ≡ Some 
     → escape_in (61 ∷ high ∷ low ∷ bs) ≡ Some (16 * h + l)
 of_digits high low h l bs e f = rw (e, f) refl
 
--- bytes stand for no others than the function gives
-pub stands_alone : (bytes out : List ℕ) → Unescapes bytes out → out ≡ unescaped bytes
-stands_alone _ _ at_end = refl
-stands_alone _ _ (escape high low h l bs out e f rest) =
-    ap (λ (t : List ℕ). (16 * h + l) ∷ t) (stands_alone bs out rest)
+-- bytes decode to no others than the function gives
+pub decodes_alone : (bytes out : List ℕ) → Unescapes bytes out → out ≡ unescaped bytes
+decodes_alone _ _ at_end = refl
+decodes_alone _ _ (escape high low h l bs out e f rest) =
+    ap (λ (t : List ℕ). (16 * h + l) ∷ t) (decodes_alone bs out rest)
     ∙ sym (at_escape _ (61 ∷ high ∷ low ∷ bs) (of_digits high low h l bs e f))
-stands_alone _ _ (stands b bs out e rest) =
-    ap (λ (t : List ℕ). b ∷ t) (stands_alone bs out rest) ∙ sym (at_other b bs e)
+decodes_alone _ _ (itself b bs out e rest) =
+    ap (λ (t : List ℕ). b ∷ t) (decodes_alone bs out rest) ∙ sym (at_other b bs e)
 
 pub digits_of : (v : ℕ) (x y : Option ℕ) → option_and_then (λ h. option_map (λ l. 16 * h + l) y) x ≡ Some v
     → (h : ℕ) × (l : ℕ) × (x ≡ Some h) × (y ≡ Some l) × (16 * h + l ≡ v)
@@ -56,28 +54,23 @@ digits_of v None y is = absurd cc
 digits_of v (Some h) None is = absurd cc
 digits_of v (Some h) (Some l) is = (h, l, refl, refl, cc)
 
-some_escape : (b v : ℕ) (bs out : List ℕ) → escape_in (b ∷ bs) ≡ Some v → Unescapes (drop 2 bs) out
-    → Unescapes (b ∷ bs) (v ∷ out)
-some_escape b v [] out e rest = absurd cc
-some_escape b v (high ∷ []) out e rest = absurd cc
-some_escape b v (high ∷ low ∷ bs) out e rest = elim (cases_eq b 61) [
+some_escape : (b high low v : ℕ) (bs out : List ℕ) → escape_in (b ∷ high ∷ low ∷ bs) ≡ Some v → Unescapes bs out
+    → Unescapes (b ∷ high ∷ low ∷ bs) (v ∷ out)
+some_escape b high low v bs out e rest = elim (cases_eq b 61) [
   | inl is ↦ (
       let d = digits_of v (digit_of high) (digit_of low) (rw (eq-eqb b 61 is) at e) in
       rw (is, ← d.4) (escape high low d.0 d.1 bs out d.2 d.3 rest))
   | inr other ↦ (let none : None ≡ Some v = rw (ne_eqb b 61 other) at e in absurd cc)
 ]
 
-stands_behind : (k : ℕ) (bs : List ℕ) → Unescapes (drop k bs) (unescaped_behind k bs)
-stands_behind zero [] = at_end
-stands_behind (suc k) [] = at_end
-stands_behind (suc k) (b ∷ bs) = stands_behind k bs
-stands_behind zero (b ∷ bs) = go (escape_in (b ∷ bs)) refl (stands_behind 0 bs) (stands_behind 2 bs)
+-- bytes decode to what the function gives
+pub decodes_to : (bytes : List ℕ) → Unescapes bytes (unescaped bytes)
+decodes_to [] = at_end
+decodes_to (b ∷ []) = itself b [] [] refl at_end
+decodes_to (b ∷ c ∷ []) = itself b (c ∷ []) (c ∷ []) refl (itself c [] [] refl at_end)
+decodes_to (b ∷ high ∷ low ∷ bs) = go (escape_in (b ∷ high ∷ low ∷ bs)) refl (decodes_to (high ∷ low ∷ bs)) (decodes_to bs)
   where
-    go : (e : Option ℕ) → escape_in (b ∷ bs) ≡ e → Unescapes bs (unescaped_behind 0 bs)
-        → Unescapes (drop 2 bs) (unescaped_behind 2 bs) → Unescapes (b ∷ bs) (unescaped (b ∷ bs))
-    go None e next past = rw e (stands b bs _ e next)
-    go (Some v) e next past = rw e (some_escape b v bs _ e past)
-
--- bytes stand for what the function gives
-pub stands_for : (bytes : List ℕ) → Unescapes bytes (unescaped bytes)
-stands_for bytes = stands_behind 0 bytes
+    go : (e : Option ℕ) → escape_in (b ∷ high ∷ low ∷ bs) ≡ e → Unescapes (high ∷ low ∷ bs) (unescaped (high ∷ low ∷ bs))
+        → Unescapes bs (unescaped bs) → Unescapes (b ∷ high ∷ low ∷ bs) (unescaped (b ∷ high ∷ low ∷ bs))
+    go None e next past = rw e (itself b (high ∷ low ∷ bs) _ e next)
+    go (Some v) e next past = rw e (some_escape b high low v bs _ e past)

@@ -199,7 +199,7 @@ completed-filter bs =
     ∙ completed-map m
     ∙ sym (append-nil (encode_symbols alphabet (octets_of bs)) ∙ encode_symbols-groups (filled m) (AreGroups-filled m kept.1))
 
--- so the first of those octets are what the text stands for
+-- so the first of those octets are what the text decodes to
 pub octets_of_text : (bytes : List ℕ) → take (whole (length (filter is_symbol (take_while (λ b. not (b == 61)) bytes)))) (octets_of (take_while (λ b. not (b == 61)) bytes)) ≡ decode_base64 bytes
 octets_of_text bytes =
     let m = sextets bytes in

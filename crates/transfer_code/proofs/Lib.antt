@@ -1,5 +1,4 @@
 pub mod EscapeLemmas
 pub mod Groups
 pub mod LineTexts
-pub mod QuotedLemmas
 mod Rows

@@ -1,4 +1,4 @@
--- What a line stands for, as a relation between what is left of it and its text.
+-- What a line decodes to, as a relation between what is left of it and its text.
 use Rattle.std.proofs.Common.{◌≡◌, ℕ, zero, suc, ◌+◌, ◌*◌, ◌-◌, Bool, true, false, eqb, cond, List, [], ◌∷◌, ◌++◌, length, get_or, take, drop, codes, Option, Some, None, refl, sym, ap, subst, ◌∙◌, arith, inl, inr}
 use Rattle.std.specs.Prelude.{◌&&◌, ◌==◌, nat_eq, if◌then◌else◌, reverse, flat_map}
 use Rattle.std.specs.List.{ends_with, prefix_len, suffix_len}
@@ -163,7 +163,7 @@ at_digits broken high low h l rest e f =
 
 -- ---- the relation
 
--- a line stands for no other text than the function gives
+-- a line decodes to no other text than the function gives
 line_text_alone : (broken : Bool) (line out : List ℕ) → LineText broken line out → out ≡ line_text line broken
 line_text_alone broken _ _ (line_end rest white) = sym (at_line_end broken rest white)
 line_text_alone broken _ _ (soft_break rest white) = sym (at_soft_break broken rest white)
@@ -207,16 +207,16 @@ of_line broken zero (c ∷ cs) =
     go false w false s None e next past =
         subst (λ t. LineText broken (c ∷ cs) t) (sym (at_byte broken c cs w s e)) (a_byte c cs (line_text cs broken) w s e next)
 
--- a line stands for the text that the function gives
-line_text_stands : (broken : Bool) (line : List ℕ) → LineText broken line (line_text line broken)
-line_text_stands broken line = of_line broken 0 line
+-- a line decodes to the text that the function gives
+line_text_decodes : (broken : Bool) (line : List ℕ) → LineText broken line (line_text line broken)
+line_text_decodes broken line = of_line broken 0 line
 
-pub lines_stand : (raws : List (List ℕ)) → LinesText raws (flat_map (λ raw. line_text (content raw) (is_broken raw)) raws)
-lines_stand [] = no_line
-lines_stand (raw ∷ raws) = a_line raw _ raws _ (line_text_stands (is_broken raw) (content raw)) (lines_stand raws)
+pub lines_decode : (raws : List (List ℕ)) → LinesText raws (flat_map (λ raw. line_text (content raw) (is_broken raw)) raws)
+lines_decode [] = no_line
+lines_decode (raw ∷ raws) = a_line raw _ raws _ (line_text_decodes (is_broken raw) (content raw)) (lines_decode raws)
 
 pub lines_alone : (raws : List (List ℕ)) (out : List ℕ) → LinesText raws out → out ≡ flat_map (λ raw. line_text (content raw) (is_broken raw)) raws
 lines_alone _ _ no_line = refl
-lines_alone _ _ (a_line raw text raws out stands more) =
-    ap (λ t. t ++ out) (line_text_alone (is_broken raw) (content raw) text stands)
+lines_alone _ _ (a_line raw text raws out decodes more) =
+    ap (λ t. t ++ out) (line_text_alone (is_broken raw) (content raw) text decodes)
     ∙ ap (λ t. line_text (content raw) (is_broken raw) ++ t) (lines_alone raws out more)

@@ -44,7 +44,7 @@ quoted_soft : decode_quoted (codes "Now's the time =\r\nfor all folk to come=\r\
     ≡ codes "Now's the time for all folk to come to the aid of their country."
 quoted_soft = refl
 
--- white space behind a soft break is of the transport, and white space before it is of the text
+-- white space after a soft break is of the transport, and white space before it is of the text
 quoted_white : decode_quoted (codes "a =\t \r\nb\t \r\n") ≡ codes "a b\n"
 quoted_white = refl
 

@@ -7,11 +7,11 @@ use Rattle.base64.specs.GeneralPurpose.{encode_of, IsBytes}
 abbrev pub alphabet : List ℕ
 alphabet = codes "ABCDEFGHIJKLMNOPQRSTUVWXYZabcdefghijklmnopqrstuvwxyz0123456789+/"
 
--- what a symbol stands for: its place in the alphabet
+-- the value of a symbol: its index in the alphabet
 abbrev pub sextet_of : ℕ → Option ℕ
 sextet_of b = position (λ c. c == b) alphabet
 
--- the sextets of the symbols before the first `=` (61); what is no symbol is passed over
+-- the sextets of the symbols before the first `=` (61); what is no symbol is skipped
 abbrev pub sextets : List ℕ → List ℕ
 sextets bytes = filter_map sextet_of (take_while (λ b. not (b == 61)) bytes)
 
@@ -25,7 +25,7 @@ octets (a ∷ b ∷ c ∷ d ∷ e ∷ f ∷ g ∷ h ∷ bits) =
     (128 * a + 64 * b + 32 * c + 16 * d + 8 * e + 4 * f + 2 * g + h) ∷ octets bits
 octets _ = []
 
--- what text in base64 stands for
+-- what text in base64 decodes to
 abbrev pub decode_base64 : List ℕ → List ℕ
 decode_base64 bytes = octets (flat_map six_bits (sextets bytes))
 

@@ -18,7 +18,7 @@ encoding_named name =
 abbrev pub encoding_of : List ℕ → Encoding
 encoding_of body = encoding_named (trim body)
 
--- what bytes in an encoding stand for
+-- what bytes in an encoding decode to
 abbrev pub decode_body : Encoding → List ℕ → List ℕ
 decode_body Plain bytes = bytes
 decode_body Quoted bytes = decode_quoted bytes

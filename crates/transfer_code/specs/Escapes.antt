@@ -1,6 +1,6 @@
--- An escape is `=` (61) and two hexadecimal digits, and stands for a byte, in quoted-printable (RFC 2045, section 6.7)
+-- An escape is `=` (61) and two hexadecimal digits, and encodes a byte, in quoted-printable (RFC 2045, section 6.7)
 -- and in an encoded word (RFC 2047, section 4.2).
-use Rattle.std.specs.Prelude.{◌≡◌, ℕ, zero, suc, ◌+◌, ◌*◌, ◌-◌, ◌&&◌, nat_le, ◌==◌, if◌then◌else◌, List, [], ◌∷◌, Option, Some, None, option_and_then, option_map, unwrap_or, is_some}
+use Rattle.std.specs.Prelude.{◌≡◌, ℕ, ◌+◌, ◌*◌, ◌-◌, ◌&&◌, nat_le, ◌==◌, if◌then◌else◌, List, [], ◌∷◌, Option, Some, None, option_and_then, option_map, unwrap_or, is_some}
 
 -- the value of a hexadecimal digit of either case
 abbrev pub digit_of : ℕ → Option ℕ
@@ -16,23 +16,22 @@ escape_in (b ∷ high ∷ low ∷ bs) =
     if b == 61 then option_and_then (λ h. option_map (λ l. 16 * h + l) (digit_of low)) (digit_of high) else None
 escape_in _ = None
 
--- Bytes on the left, and what they stand for on the right, by cases on the bytes that are left: an escape is
--- its byte, and any other byte, a `=` too, stands for itself.
+-- Encoded bytes on the left, and what they decode to on the right, by cases on the bytes that are left: an escape
+-- is its byte, and any other byte, a `=` too, is itself.
 pub data Unescapes : List ℕ → List ℕ → Type 0 where
   at_end : Unescapes [] []
   escape : (high low h l : ℕ) (bs out : List ℕ) → digit_of high ≡ Some h → digit_of low ≡ Some l
       → Unescapes bs out → Unescapes (61 ∷ high ∷ low ∷ bs) ((16 * h + l) ∷ out)
-  stands : (b : ℕ) (bs out : List ℕ) → escape_in (b ∷ bs) ≡ None
+  itself : (b : ℕ) (bs out : List ℕ) → escape_in (b ∷ bs) ≡ None
       → Unescapes bs out → Unescapes (b ∷ bs) (b ∷ out)
 
--- The same as a function. The number says how many bytes the escape before takes still.
-abbrev pub unescaped_behind : ℕ → List ℕ → List ℕ
-unescaped_behind taken [] = []
-unescaped_behind (suc k) (b ∷ bs) = unescaped_behind k bs
-unescaped_behind zero (b ∷ bs) =
-    let byte = escape_in (b ∷ bs) in
-    unwrap_or byte b ∷ unescaped_behind (if is_some byte then 2 else 0) bs
-
--- the bytes, each escape as its byte
+-- the same as a function: the bytes, each escape as its byte
 abbrev pub unescaped : List ℕ → List ℕ
-unescaped bytes = unescaped_behind 0 bytes
+unescaped [] = []
+unescaped (b ∷ []) = b ∷ []
+unescaped (b ∷ c ∷ []) = b ∷ c ∷ []
+unescaped (b ∷ high ∷ low ∷ bs) =
+    let byte = escape_in (b ∷ high ∷ low ∷ bs) in
+    let after_escape = unescaped bs in
+    let after_byte = unescaped (high ∷ low ∷ bs) in
+    if is_some byte then unwrap_or byte b ∷ after_escape else b ∷ after_byte

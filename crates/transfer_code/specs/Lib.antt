@@ -1,4 +1,5 @@
-pub mod Escapes
-pub mod Quoted
+-- What public clauses cite.
 pub mod Base64
 pub mod Encodings
+pub mod Escapes
+pub mod Quoted

@@ -1,4 +1,4 @@
-//! Which transfer encoding a body has, and what it stands for.
+//! Which transfer encoding a body has, and what it decodes to.
 ghost use Rattle.std.specs.Prelude.{◌≡◌, IfOk};
 ghost use Rattle.kit.specs.Lines.{raw_lines};
 ghost use Rattle.transfer_code.specs.declared.encoding.Encoding.TheVariants.{Quoted};
@@ -10,7 +10,7 @@ use crate::sextets::decode_base64;
 use kit::{Memory, same_name, trim};
 use std::alloc::Global;
 
-/// How the bytes of a body stand in a mail (RFC 2045, section 6).
+/// How the bytes of a body are encoded in a mail (RFC 2045, section 6).
 #[derive(Clone, Copy, Debug, PartialEq, Eq)]
 pub enum Encoding {
     /// As they are: `7bit`, `8bit`, `binary`, and every other encoding that is not read.
@@ -35,19 +35,19 @@ fn encoding_named(name: &[u8]) -> Encoding
 
 /// The encoding that the body of a Content-Transfer-Encoding field names, in which the case of ASCII letters does not
 /// count (RFC 2045, section 6.1). The name is the whole body without spaces and tabs at its ends: a comment or a
-/// parameter behind it makes it another name, and another name is `Plain`. Takes no memory.
+/// parameter after it makes it another name, and another name is `Plain`. Takes no memory.
 pub fn encoding_of(body: &[u8]) -> Encoding
     ensures { result ≡ encoding_of body.now }
 {
     encoding_named(trim(body))
 }
 
-/// The bytes that a body of any length stands for in its encoding. Takes memory, and is `Err` only where there is none.
+/// The bytes that a body of any length decodes to in its encoding. Takes memory; `Err` only when it runs out.
 ///
 /// `Plain` keeps the bytes. `Quoted` goes line by line (RFC 2045, section 6.7): spaces and tabs at the end of a line are
 /// dropped; a last `=` is dropped and joins the next line; `=` and two hexadecimal digits of either case are a byte,
-/// and any other `=` stands; the break that ends a line, LF or CR LF, is one LF. `Base64` reads up to the first `=`
-/// and passes over what is no symbol (RFC 2045, section 6.8): each eight bits of the symbols are a byte, and what is
+/// and any other `=` is kept; the break that ends a line, LF or CR LF, is one LF. `Base64` reads up to the first `=`
+/// and skips what is no symbol (RFC 2045, section 6.8): each eight bits of the symbols are a byte, and what is
 /// left over at the end is dropped.
 pub fn decode_body(alloc: Global, encoding: Encoding, bytes: &[u8]) -> Result<Vec<u8>, Memory>
     ensures value { IfOk result (λ out. out.items ≡ decode_body encoding bytes.now) }

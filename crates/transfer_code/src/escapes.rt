@@ -49,12 +49,11 @@ pub fn push_unescaped(out: &mut Vec<u8>, bytes: &[u8]) -> Result<(), Memory>
 }
 
 /// The bytes, each escape as its byte: `=` and two hexadecimal digits of either case, as in an encoded word (RFC 2047,
-/// section 4.2). A `=` that no two such digits follow stands for itself. Takes memory, and is `Err` only where there is
-/// none.
+/// section 4.2). A `=` that no two such digits follow is itself. Takes memory; `Err` only when it runs out.
 pub fn unescaped(alloc: Global, bytes: &[u8]) -> Result<Vec<u8>, Memory>
     ensures value { IfOk result (λ out. out.items ≡ unescaped bytes.now) }
-    // The same by cases on the bytes that are left: they stand for these bytes and for no others.
-    ensures stands { IfOk result (λ out. Unescapes bytes.now out.items) }
+    // The same by cases on the bytes that are left: they decode to these bytes and to no others.
+    ensures decodes { IfOk result (λ out. Unescapes bytes.now out.items) }
     ensures alone { IfOk result (λ out. (other : List ℕ) → Unescapes bytes.now other → other ≡ out.items) }
 {
     let mut out = Vec::new(alloc);

@@ -1,5 +1,5 @@
 //! Transfer encodings of a body (RFC 2045, section 6): which one a header field names, and the bytes that
-//! text in it stands for. Every text decodes: what an encoder may not write is read by rules of its own.
+//! text in it decodes to. Every text decodes: what an encoder may not write is read by rules of its own.
 #![tactic(auto)]
 
 mod encoding;

@@ -45,7 +45,7 @@ fn complete(symbols: &mut Vec<u8>) -> Result<(), Memory>
     Ok(())
 }
 
-/// What the symbols of an encoder stand for.
+/// What the symbols of an encoder decode to.
 fn decode_exactly(alloc: Global, symbols: &[u8]) -> Result<Vec<u8>, Memory>
     requires { IsEncoded symbols.now }
     ensures value { IfOk result (λ out. decode_of standard_no_pad symbols.now ≡ Ok out.items) }
@@ -59,7 +59,7 @@ fn decode_exactly(alloc: Global, symbols: &[u8]) -> Result<Vec<u8>, Memory>
     }
 }
 
-/// The bytes that text in base64 stands for.
+/// The bytes that text in base64 decodes to.
 pub fn decode_base64(alloc: Global, bytes: &[u8]) -> Result<Vec<u8>, Memory>
     ensures { IfOk result (λ out. out.items ≡ decode_base64 bytes.now) }
 {

@@ -1,5 +1,5 @@
 use Rattle.std.proofs.Common.{◌≡◌, length}
-use Rattle.kit.specs.Distinct.{are_distinct}
+use Rattle.lists.specs.Distinct.{are_distinct}
 use Rattle.card_type.proofs.rules.are_distinct.Given as goal
 
 abbrev pub invariant-loop-first : goal.invariant-loop-first

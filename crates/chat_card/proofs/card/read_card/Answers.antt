@@ -27,4 +27,4 @@ pub returns-clause-fault : goal.returns-clause-fault
 returns-clause-fault c = subst (λ r. IfErr c.accepted.result (λ why. (why ≡ fault.Memory) ⊎ (r ≡ Err why))) (sym (whole c)) (err-self (λ why. why ≡ fault.Memory) c.accepted.result)
 
 pub returns-clause-valid : goal.returns-clause-valid
-returns-clause-valid c = c.accepted.ensures.valid c.in_ok-card_from.ensures.valid
+returns-clause-valid c = c.accepted.ensures.valid c.in_ok-card_from.ensures.bounds

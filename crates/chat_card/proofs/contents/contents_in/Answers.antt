@@ -1,6 +1,6 @@
 use Rattle.std.proofs.Common.{List, Bor, ap, map, sym, ◌∙◌}
 use Rattle.std.specs.List.{filter_map, join_with_byte, list_any}
-use Rattle.chat_card.specs.declared.kept.Kept as Borrowed
+use Rattle.chat_card.specs.declared.leaf.Kept as Borrowed
 use Rattle.chat_card.specs.declared.part.Part.{Part}
 use Rattle.chat_card.specs.Files.{attachment, is_app}
 use Rattle.chat_card.specs.Shown.{file_of, text_of}

@@ -1,8 +1,10 @@
-use Rattle.std.proofs.Common.{map, sym}
+use Rattle.std.proofs.Common.{map, sym, ◌∙◌}
 use Rattle.std.specs.Prelude.{None, Some, reverse}
 use Rattle.std.proofs.lemmas.List.{append-nil}
 use Rattle.chat_card.specs.Views.{kept}
+use Rattle.chat_card.specs.Shown.{forest}
 use Rattle.chat_card.proofs.KeptLemmas.{kept-all, kept-more}
+use Rattle.chat_card.proofs.WayLemmas.{kept-together}
 use Rattle.chat_card.proofs.kept.kept_of.Goals as goal
 
 pub loop-part-preserved-in_ok-push : goal.loop-part-preserved-in_ok-push
@@ -20,4 +22,6 @@ loop-part-preserved c =
     c.in_default-own.ensures (sym (append-nil c.loop-part.found.items)) c.loop-part.invariant
 
 pub returns : goal.returns
-returns c = kept-all (reverse c.loop-part.parents.items) c.loop-part.left.now (map kept c.loop-part.found.items) _ c.in_default.ensures.cases c.loop-part.invariant
+returns c =
+    kept-all (reverse c.loop-part.parents.items) c.loop-part.left.now (map kept c.loop-part.found.items) _ c.in_default.ensures.cases c.loop-part.invariant
+    ∙ kept-together (forest c.args.parts.now)

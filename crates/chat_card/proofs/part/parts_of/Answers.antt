@@ -1,7 +1,7 @@
 use Rattle.std.proofs.Common.{length}
 use Rattle.std.specs.Prelude.{Some}
 use Rattle.std.proofs.lemmas.List.Elements.{All-pop}
-use Rattle.mime_parts.specs.Walks.{IsNodeWithin}
+use Rattle.mime_parts.specs.Trees.{IsNodeWithin}
 use Rattle.chat_card.proofs.PartLemmas.{part-popped}
 use Rattle.chat_card.proofs.part.parts_of.Goals as goal
 

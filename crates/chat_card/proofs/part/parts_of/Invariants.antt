@@ -1,6 +1,6 @@
 use Rattle.std.proofs.Common.{◌≡◌, ◌++◌, All, length, map, vec_len}
 use Rattle.std.specs.Prelude.{reverse}
-use Rattle.mime_parts.specs.Walks.{IsNodeWithin}
+use Rattle.mime_parts.specs.Trees.{IsNodeWithin}
 use Rattle.chat_card.specs.Parts.{part, parts_of}
 use Rattle.chat_card.proofs.part.parts_of.Given as goal
 

@@ -3,7 +3,7 @@ use Rattle.std.proofs.lemmas.List.{take_rest, length-drop}
 use Rattle.encoded_words.specs.Words.{word_at}
 use Rattle.encoded_words.specs.Views.{found}
 use Rattle.encoded_words.proofs.WordLemmas.{word_at-shorter}
-use Rattle.encoded_words.proofs.PieceLemmas.{search_on, search_ends}
+use Rattle.encoded_words.proofs.RunLemmas.{search_on, search_ends}
 use Rattle.encoded_words.proofs.decode.first_word.Goals as goal
 
 pub returns-in-Some : goal.returns-in-Some

@@ -14,4 +14,4 @@ pub returns-clause-text : goal.returns-clause-text
 returns-clause-text c =
     let text = c.loop-rest.text.now in
     let none = depth_none text (strip_prefix_char 62 text None c.in_default.ensures.cases (omega arith)) in
-    c.unstuffed.ensures ∙ ap unstuffed (sym (ap (λ n. drop n text) none) ∙ c.loop-rest.invariant.behind)
+    c.unstuffed.ensures ∙ ap unstuffed (sym (ap (λ n. drop n text) none) ∙ c.loop-rest.invariant.rest)

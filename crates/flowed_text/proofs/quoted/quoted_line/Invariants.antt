@@ -9,7 +9,7 @@ invariant-loop-rest l = record {
   utf8 : shadow (Utf8 l.text);
   within : l.depth + length l.text ≤ length l.line;
   depth : l.depth + prefix_len (λ b. b == 62) l.text ≡ prefix_len (λ b. b == 62) l.line;
-  behind : drop (prefix_len (λ b. b == 62) l.text) l.text ≡ drop (prefix_len (λ b. b == 62) l.line) l.line;
+  rest : drop (prefix_len (λ b. b == 62) l.text) l.text ≡ drop (prefix_len (λ b. b == 62) l.line) l.line;
 }
 
 abbrev pub decreases-loop-rest : goal.decreases-loop-rest

@@ -1,13 +1,16 @@
-use Rattle.std.proofs.Common.{◌≡◌, ◌==◌, true, length, map}
-use Rattle.std.specs.Prelude.{not, string_bytes}
-use Rattle.std.specs.List.{list_all}
-use Rattle.flowed_text.specs.Flowed.{is_signature, text_of}
+use Rattle.std.proofs.Common.{◌≡◌, ◌++◌, length}
+use Rattle.std.specs.Prelude.{not, string_bytes, take_while}
+use denote.Text.{Utf8}
+use denote.Shadow.{shadow}
+use Rattle.flowed_text.specs.Flowed.{is_signature, line_texts, user_text}
+use Rattle.flowed_text.proofs.AboveLemmas.{text_after}
 use Rattle.flowed_text.proofs.signature.user_text.Given as goal
 
--- the lines so far, none of which is the one above a signature
 abbrev pub invariant-loop-line : goal.invariant-loop-line
 invariant-loop-line l = record {
-  so_far : string_bytes l.above ≡ text_of (map (λ line. line.now) l.yielded);
-  first : l.first ≡ (length l.yielded == 0);
-  lines : list_all (λ line. not (is_signature line)) (map (λ line. line.now) l.yielded) ≡ true;
+  utf8 : shadow (Utf8 l.left);
+  so_far : string_bytes l.above ++ text_after l.first (take_while (λ line. not (is_signature line)) (line_texts l.left)) ≡ user_text l.text;
 }
+
+abbrev pub decreases-loop-line : goal.decreases-loop-line
+decreases-loop-line l = length l.left

@@ -5,14 +5,14 @@ use Rattle.std.proofs.lemmas.Iterator.{items_from_collect}
 use Rattle.std.proofs.lemmas.Iterator.Adapters.{YieldsList-from_vec}
 use Rattle.std.proofs.lemmas.Iterator.Consumers.{YieldsList-end, YieldsList-from_rest, YieldsList-so_far, YieldsList-turn}
 use Rattle.std.proofs.lemmas.List.Elements.{All-map, All-same}
-use Rattle.kit.specs.Distinct.{each_once}
-use Rattle.kit.proofs.Distinct.{each_once-before}
-use Rattle.mailbox_model.specs.Lists.{sorted_by}
-use Rattle.follow.specs.declared.list.ListRow.{ListRow}
+use Rattle.lists.specs.Distinct.{each_once}
+use Rattle.lists.proofs.DistinctLaws.{each_once-before}
+use Rattle.lists.specs.Sorted.{sorted_by}
+use Rattle.follow.specs.declared.list.PlainRow.{PlainRow}
 use Rattle.follow.specs.declared.mail.Mail.{Mail}
 use Rattle.follow.specs.Lists.{list_of, list_row, row_cmp}
 use Rattle.follow.proofs.Ranks.{list_row-dated, rank_of, rows-insert}
-use Rattle.follow.proofs.Sorted.{All-sorted_by, keyed, values_of-keyed}
+use Rattle.lists.proofs.Sorted.{All-sorted_by, keyed, values_of-keyed}
 use Rattle.follow.proofs.list.list_of.Goals as goal
 use Rattle.follow.proofs.list.list_of.Goals.{In_ok-insert}
 
@@ -27,9 +27,9 @@ one_more c =
     let address = c.in-Some.address in
     let all : c.in_ok-address-items.address-items.items ≡ each_once (froms c.args.mails.now) = c.in_ok-address-items.ensures in
     let road = YieldsList-from_vec {s = c.into_iter-address-iterator.result} (each_once (froms c.args.mails.now)) (c.into_iter-address-iterator.ensures.into_iter_gives.0 ∙ all) (omega (arith, ap length all)) in
-    let front = YieldsList-so_far road taken c.loop-address.address-iterator c.loop-address.yielded_by in
+    let so_far = YieldsList-so_far road taken c.loop-address.address-iterator c.loop-address.yielded_by in
     let turn = YieldsList-turn road taken c.loop-address.address-iterator c.loop-address.yielded_by c.next.result c.next.new.self address c.in-Some.is c.next.ensures.steps in
-    let apart : All (λ other. bytes_eq other address ≡ false) taken = each_once-before (froms c.args.mails.now) taken address (sym (map-id taken) ∙ front) turn.0 turn.1 in
+    let apart : All (λ other. bytes_eq other address ≡ false) taken = each_once-before (froms c.args.mails.now) taken address (sym (map-id taken) ∙ so_far) turn.0 turn.1 in
     c.in_ok-insert.ensures.entries ∙ rw (c.loop-address.invariant.so_far, c.in_ok-copy.ensures, c.in_ok-row.ensures) (rows-insert c.args.mails.now taken address apart)
 
 pub loop-address-preserved-in_ok-insert : goal.loop-address-preserved-in_ok-insert
@@ -53,6 +53,6 @@ unfolding froms
 returns-clause-dates c = λ at dated.
     let mails = c.args.mails.now in
     let addresses = each_once (froms mails) in
-    let Dated : ListRow → Type 0 = λ row. IfSome row.last (λ time. time ≤ at) in
+    let Dated : PlainRow → Type 0 = λ row. IfSome row.last (λ time. time ≤ at) in
     All-same Dated c.in_ok-collect.field-0.items (list_of mails) (returns-clause-value c)
     (All-sorted_by row_cmp Dated (map (list_row mails) addresses) (All-map Dated (list_row mails) addresses (λ _ _ _. list_row-dated at mails _ dated)))

@@ -1,8 +1,8 @@
 use Rattle.std.proofs.Common.{◌≡◌, map}
 use Rattle.follow.specs.Lists.{list_row, row_cmp}
-use Rattle.mailbox_model.specs.Lists.{sorted_by}
+use Rattle.lists.specs.Sorted.{sorted_by}
 use Rattle.follow.proofs.Ranks.{rank_of}
-use Rattle.follow.proofs.Sorted.{keyed}
+use Rattle.lists.proofs.Sorted.{keyed}
 use Rattle.follow.proofs.list.list_of.Given as goal
 
 abbrev pub invariant-loop-address : goal.invariant-loop-address

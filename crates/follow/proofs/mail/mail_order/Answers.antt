@@ -1,4 +1,4 @@
-use Rattle.std.proofs.Common.{◌≡◌, ◌≤◌, ◌+◌, ◌∙◌, sym, ap, arith, rules, [], ◌∷◌, ◌++◌, length, map-id, Ok}
+use Rattle.std.proofs.Common.{◌≤◌, ◌∙◌, sym, ap, arith, rules, map-id, Ok}
 use Rattle.std.specs.Map.{values_of}
 use Rattle.std.proofs.lemmas.Iterator.{items_from_collect}
 use Rattle.std.proofs.lemmas.Iterator.Adapters.{YieldsList-from_vec}
@@ -6,31 +6,23 @@ use Rattle.std.proofs.lemmas.Iterator.Consumers.{YieldsList-end, YieldsList-from
 use Rattle.std.proofs.lemmas.List.{length_push}
 use Rattle.std.proofs.lemmas.List.Elements.{All-same}
 use Rattle.follow.specs.declared.mail.Mail.{Mail}
-use Rattle.mailbox_model.specs.Lists.{sorted_by}
-use Rattle.follow.specs.Mailbox.{arrivals, mail_cmp}
-use Rattle.follow.proofs.Arrivals.{arrivals-dated, arrivals-insert, spot_of}
-use Rattle.follow.proofs.Sorted.{All-sorted_by, keyed, values_of-keyed}
+use Rattle.lists.specs.Sorted.{sorted_by}
+use Rattle.follow.specs.Arrivals.{arrivals, key_of}
+use Rattle.follow.specs.Mailbox.{mail_cmp}
+use Rattle.follow.proofs.Arrivals.{arrivals-dated, arrivals-insert}
+use Rattle.lists.proofs.Sorted.{All-sorted_by, values_of-keyed}
 use Rattle.follow.proofs.mail.mail_order.Goals as goal
-use Rattle.follow.proofs.mail.mail_order.Goals.{In_ok-insert}
-
-one_more : (c : In_ok-insert) → let so_far = c.loop-card.yielded ++ c.in-Some.card ∷ [] in
-    record { count : c.loop-card.uid + 1 ≡ length so_far; order : c.insert.new.self.entries ≡ keyed spot_of (sorted_by mail_cmp (arrivals 1 c.args.at so_far)) }
-one_more c =
-    let before = c.loop-card.invariant in
-    record {
-      count = omega (arith, length_push c.loop-card.yielded c.in-Some.card, before.count);
-      order = c.in_ok-insert.ensures.entries ∙ rw (before.so_far, before.count, c.min-date.ensures, c.in_ok-id.ensures) (arrivals-insert c.args.at c.loop-card.yielded c.in-Some.card);
-    }
-
-pub loop-card-preserved-in_ok-insert : goal.loop-card-preserved-in_ok-insert
-loop-card-preserved-in_ok-insert c =
-    let more = one_more (goal.at.loop-card-preserved-in_ok-insert c).In_ok-insert in
-    record { can_next = tt; ends = tt; count = more.count; so_far = more.order }
 
 pub loop-card-preserved : goal.loop-card-preserved
 loop-card-preserved c =
-    let more = one_more (goal.at.loop-card-preserved c).In_ok-insert in
-    record { can_next = tt; ends = tt; count = more.count; so_far = more.order }
+    let yielded = c.loop-card.yielded in
+    let before = c.loop-card.invariant in
+    record {
+      can_next = tt;
+      ends = tt;
+      count = omega (arith, length_push yielded c.in-Some.card, before.count);
+      so_far = c.in_ok-insert_mail.ensures ∙ rw (before.so_far, before.count) (arrivals-insert c.args.at yielded c.in-Some.card);
+    }
 
 pub returns-clause-value : goal.returns-clause-value
 returns-clause-value c =
@@ -39,7 +31,7 @@ returns-clause-value c =
     let end = YieldsList-end road taken c.loop-card.card-iterator c.loop-card.yielded_by c.next.result c.next.new.self c.in-None.is c.next.ensures.steps in
     items_from_collect {E = Unit {0}} (Ok c.in_ok-collect.field-0) c.in_ok-collect.ensures.ran (YieldsList-from_rest _ c.into_values.ensures.rest)
     ∙ ap values_of c.loop-card.invariant.so_far
-    ∙ values_of-keyed spot_of (sorted_by mail_cmp (arrivals 1 c.args.at taken))
+    ∙ values_of-keyed key_of (sorted_by mail_cmp (arrivals 1 c.args.at taken))
     ∙ ap (λ cards. sorted_by mail_cmp (arrivals 1 c.args.at cards)) (sym (map-id taken) ∙ end.0)
 
 pub returns-clause-dates : goal.returns-clause-dates

@@ -4,7 +4,7 @@ use Rattle.std.specs.Cmp.Lexicographic.{slice_cmp}
 use Rattle.std.specs.List.{list_any}
 use Rattle.std.specs.Ordering.{nat_cmp}
 use Rattle.std.specs.Str.{bytes_eq}
-use Rattle.kit.specs.Distinct.{are_distinct}
+use Rattle.lists.specs.Distinct.{are_distinct}
 use Rattle.follow.proofs.plain.have_distinct_ids.Given as goal
 
 -- the set has the ids so far, of which no two are alike

@@ -1,10 +1,10 @@
-use Rattle.std.proofs.Common.{◌≡◌, map, take}
-use Rattle.kit.specs.Lines.{lines}
-use Rattle.kit.proofs.LineLemmas.{raw_part}
+use Rattle.std.proofs.Common.{◌≡◌, ◌++◌, length, map}
+use Rattle.kit.specs.Lines.{raw_lines}
 use Rattle.follow.proofs.plain.raw_lines.Given as goal
 
-abbrev pub invariant-loop-line : goal.invariant-loop-line
-invariant-loop-line l = record {
-  places : l.line-items ≡ lines l.bytes;
-  so_far : map (λ line. line.now) l.raw.items ≡ map (raw_part l.bytes) (take l.line-index l.line-items);
-}
+-- the lines that were cut, and those of the bytes that are left
+abbrev pub invariant-loop-raw : goal.invariant-loop-raw
+invariant-loop-raw l = map (λ line. line.now) l.lines.items ++ raw_lines l.left ≡ raw_lines l.bytes
+
+abbrev pub decreases-loop-raw : goal.decreases-loop-raw
+decreases-loop-raw l = length l.left

@@ -9,9 +9,9 @@ pub returns-in-None-clause-status : goal.returns-in-None-clause-status
 returns-in-None-clause-status g c = rw c.in-None.is c.run_given-in-None.ensures.status
 
 pub returns-in-None-clause-complete : goal.returns-in-None-clause-complete
-returns-in-None-clause-complete g c = rw c.in-None.is (λ bytes text moment told tells is no_read no_write.
+returns-in-None-clause-complete g c = rw c.in-None.is (λ bytes text moment known gives is no_read no_write.
     let ran = c.run_given-in-None.ensures in
-    answered _ _ _ text _ is (ran.status bytes moment told tells) (ran.answer bytes moment told tells) (λ s. no_read (ran.read s)) (λ s. no_write (ran.write s)))
+    answered _ _ _ text _ is (ran.status bytes moment known gives) (ran.answer bytes moment known gives) (λ s. no_read (ran.read s)) (λ s. no_write (ran.write s)))
 
 pub returns-in-Some-clause-usage : goal.returns-in-Some-clause-usage
 returns-in-Some-clause-usage g c = comes_unwritten _ _ _ c.run_given.ensures.usage

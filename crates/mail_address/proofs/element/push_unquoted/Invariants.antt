@@ -3,4 +3,4 @@ use Rattle.mail_address.specs.Tokens.{unquoted}
 use Rattle.mail_address.proofs.element.push_unquoted.Given as goal
 
 abbrev pub invariant-loop-byte : goal.invariant-loop-byte
-invariant-loop-byte l = l.out.items ++ unquoted l.pair (drop l.byte-index l.inside) ≡ l.fn.out.items ++ unquoted false l.inside
+invariant-loop-byte l = l.out.items ++ unquoted l.escaped (drop l.byte-index l.inside) ≡ l.fn.out.items ++ unquoted false l.inside

@@ -7,7 +7,7 @@ use Rattle.mail_address.proofs.list.people.Given as goal
 
 -- those found, and those that the element so far and the rest name, are all
 abbrev pub invariant-loop-token : goal.invariant-loop-token
-invariant-loop-token l = l.found.items ++ left (state l.element) (tokens l.rest) ≡ people l.body
+invariant-loop-token l = l.found.items ++ left (state l.element) (tokens l.left) ≡ people l.body
 
 abbrev pub decreases-loop-token : goal.decreases-loop-token
-decreases-loop-token l = length l.rest
+decreases-loop-token l = length l.left

@@ -1,9 +1,7 @@
 use Rattle.std.proofs.Common.{◌≡◌, ◌+◌, length, vec_len, rules, arith}
 use Rattle.std.specs.Prelude.{Some}
 use Rattle.std.proofs.lemmas.List.Elements.{All-pop}
-use Rattle.kit.specs.Lines.{raw_lines}
 use Rattle.mime_parts.specs.Walks.{IsWithin, coming}
-use Rattle.mime_parts.proofs.CutLemmas.{cut-into, spans-cut}
 use Rattle.mime_parts.proofs.WalkLemmas.{stack-first, stack-kept}
 use Rattle.mime_parts.proofs.tree.parts.Goals as goal
 
@@ -36,21 +34,3 @@ loop-next-preserved c =
       coming = stack-kept c.args.body.now c.loop-next.walk.nodes.items c.read.new.self.nodes.items _ c.loop-next.walk.work.items c.pop.new.self.items c.read.new.self.work.items c.in-Some.next
           (vec_len c.loop-next.walk.nodes + vec_len c.pop.new.self + 1) c.in-Some.ensures.items (omega (arith, nodes, work)) read.coming c.loop-next.invariant.coming;
     }
-
-pub returns-in_err-enter-clause-whole : goal.returns-in_err-enter-clause-whole
-returns-in_err-enter-clause-whole c = spans-cut
-
-pub returns-in_err-read-clause-whole : goal.returns-in_err-read-clause-whole
-returns-in_err-read-clause-whole c = spans-cut
-
-pub returns-clause-whole : goal.returns-clause-whole
-returns-clause-whole c = spans-cut
-
-pub returns-in_err-enter-clause-grammar : goal.returns-in_err-enter-clause-grammar
-returns-in_err-enter-clause-grammar c = λ boundary bytes. cut-into boundary (raw_lines bytes)
-
-pub returns-in_err-read-clause-grammar : goal.returns-in_err-read-clause-grammar
-returns-in_err-read-clause-grammar c = λ boundary bytes. cut-into boundary (raw_lines bytes)
-
-pub returns-clause-grammar : goal.returns-clause-grammar
-returns-clause-grammar c = λ boundary bytes. cut-into boundary (raw_lines bytes)

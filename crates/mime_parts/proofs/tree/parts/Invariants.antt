@@ -1,6 +1,6 @@
 use Rattle.std.proofs.Common.{◌≡◌, ◌≤◌, ◌+◌, ◌-◌, All, length, vec_len}
-use Rattle.mime_parts.specs.Trees.{tree}
-use Rattle.mime_parts.specs.Walks.{IsNodeWithin, IsWithin, coming}
+use Rattle.mime_parts.specs.Trees.{IsNodeWithin, tree}
+use Rattle.mime_parts.specs.Walks.{IsWithin, coming}
 use Rattle.mime_parts.proofs.tree.parts.Given as goal
 
 abbrev pub invariant-loop-next : goal.invariant-loop-next

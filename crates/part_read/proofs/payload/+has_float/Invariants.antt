@@ -3,7 +3,7 @@ use Rattle.serde_json.specs.View.{items_view, members_view}
 use Rattle.serde_json.specs.Written.{items_have_float, members_have_float}
 use Rattle.part_read.proofs.payload.+has_float.Given as goal
 
--- whether one is left is whether one stands at all
+-- one is left exactly where there is one at all
 abbrev pub invariant-items_have_float-loop-item : goal.invariant-items_have_float-loop-item
 invariant-items_have_float-loop-item l =
     items_have_float (items_view (drop l.item-index l.item-items)) ≡ items_have_float (items_view l.items.items)

@@ -1,7 +1,7 @@
 use Rattle.std.proofs.Common.{sym, ap, ◌∙◌}
 use Rattle.std.specs.FinMap as map
 use Rattle.card_type.proofs.Orders.{keys_total}
-use Rattle.card_type.proofs.Maps.{get_is}
+use Rattle.lists.proofs.Maps.{get_is}
 use Rattle.card_type.proofs.key_map.KeyMap.get.Goals as goal
 
 pub returns : goal.returns

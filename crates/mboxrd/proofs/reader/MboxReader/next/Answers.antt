@@ -1,7 +1,7 @@
 use Rattle.std.proofs.Common.{◌≡◌, ◌++◌, true, arith, sym, ◌∙◌}
 use Rattle.std.proofs.lemmas.Result.{err_from_is_err_and}
 use Rattle.mboxrd.specs.declared.taken.Taken.TheVariants as taken
-use Rattle.mboxrd.proofs.Answered.{Takes_more, both_most, answers_long, answers_mail, told, leaves_more, stands}
+use Rattle.mboxrd.proofs.Answered.{Takes_more, both_most, answers_long, answers_mail, answer_known, holds_rest_more, at_position}
 use Rattle.mboxrd.proofs.reader.MboxReader.next.Goals as goal
 
 pub returns-in_err-bytes-clause-took : goal.returns-in_err-bytes-clause-took
@@ -16,8 +16,8 @@ returns-in_err-bytes-clause-took g c =
       rw p.1 (λ e. both_most c.args.self.now c.reach.new.self s.0 t.0 met s.2.0 (t.2 (sym q ∙ e))),
     )
 
-pub returns-then-len-gt-LONGEST-clause-took : goal.returns-then-len-gt-LONGEST-clause-took
-returns-then-len-gt-LONGEST-clause-took g c =
+pub returns-then-len-gt-MAX_MAIL_LEN-clause-took : goal.returns-then-len-gt-MAX_MAIL_LEN-clause-took
+returns-then-len-gt-MAX_MAIL_LEN-clause-took g c =
     let s = c.in_ok-found.ensures.took in
     let t = c.in_ok-bytes.ensures.took in
     let met : c.reach.new.self.at_separator ≡ true = sym c.in_ok-found.ensures.found ∙ c.if-not-found.false in (
@@ -25,20 +25,20 @@ returns-then-len-gt-LONGEST-clause-took g c =
       Takes_more _ _ _ c.args.self.now c.reach.new.self c.read_mail.new.self s.0 t.0 s.1 t.1,
       (
         answers_long c.args.self.now c.reach.new.self c.read_mail.new.self s.0 t.0 t.2.0 c.in_ok-bytes.bytes.items met s.2.0 t.2.2 c.in_ok-bytes.ensures.place t.2.1
-            (omega (arith, c.if-len-gt-LONGEST.true, c.len.ensures)),
-        leaves_more c.args.self.now c.reach.new.self c.read_mail.new.self s.0 t.0 s.2.1 t.2.3,
+            (omega (arith, c.if-len-gt-MAX_MAIL_LEN.true, c.len.ensures)),
+        holds_rest_more c.args.self.now c.reach.new.self c.read_mail.new.self s.0 t.0 s.2.1 t.2.3,
       ),
     )
 
-pub returns-then-len-gt-LONGEST-clause-answer : goal.returns-then-len-gt-LONGEST-clause-answer
-returns-then-len-gt-LONGEST-clause-answer g c =
-    let w = returns-then-len-gt-LONGEST-clause-took g c in
-    told (g.S.Source.left c.args.source.now) (g.S.Source.left c.read_mail.new.source) c.args.self.now c.read_mail.new.self w.0 taken.TooLong w.1 c.in_ok-bytes.ensures.end w.2.0
+pub returns-then-len-gt-MAX_MAIL_LEN-clause-answer : goal.returns-then-len-gt-MAX_MAIL_LEN-clause-answer
+returns-then-len-gt-MAX_MAIL_LEN-clause-answer g c =
+    let w = returns-then-len-gt-MAX_MAIL_LEN-clause-took g c in
+    answer_known (g.S.Source.left c.args.source.now) (g.S.Source.left c.read_mail.new.source) c.args.self.now c.read_mail.new.self w.0 taken.TooLong w.1 c.in_ok-bytes.ensures.end w.2.0
 
-pub returns-then-len-gt-LONGEST-clause-stands : goal.returns-then-len-gt-LONGEST-clause-stands
-returns-then-len-gt-LONGEST-clause-stands g c =
-    let w = returns-then-len-gt-LONGEST-clause-took g c in
-    stands (g.S.Source.left c.args.source.now) (g.S.Source.left c.read_mail.new.source) c.args.self.now c.read_mail.new.self w.0 c.in_ok-found.ensures.before c.in_ok-bytes.ensures.fewer w.1 w.2.1
+pub returns-then-len-gt-MAX_MAIL_LEN-clause-position : goal.returns-then-len-gt-MAX_MAIL_LEN-clause-position
+returns-then-len-gt-MAX_MAIL_LEN-clause-position g c =
+    let w = returns-then-len-gt-MAX_MAIL_LEN-clause-took g c in
+    at_position (g.S.Source.left c.args.source.now) (g.S.Source.left c.read_mail.new.source) c.args.self.now c.read_mail.new.self w.0 c.in_ok-found.ensures.before c.in_ok-bytes.ensures.fewer w.1 w.2.1
 
 pub returns-clause-took : goal.returns-clause-took
 returns-clause-took g c =
@@ -49,22 +49,22 @@ returns-clause-took g c =
       Takes_more _ _ _ c.args.self.now c.reach.new.self c.read_mail.new.self s.0 t.0 s.1 t.1,
       (
         answers_mail c.args.self.now c.reach.new.self c.read_mail.new.self s.0 t.0 t.2.0 c.in_ok-bytes.bytes met s.2.0 t.2.2 c.in_ok-bytes.ensures.place t.2.1
-            (omega (arith, c.if-len-gt-LONGEST.false, c.len.ensures)),
-        leaves_more c.args.self.now c.reach.new.self c.read_mail.new.self s.0 t.0 s.2.1 t.2.3,
+            (omega (arith, c.if-len-gt-MAX_MAIL_LEN.false, c.len.ensures)),
+        holds_rest_more c.args.self.now c.reach.new.self c.read_mail.new.self s.0 t.0 s.2.1 t.2.3,
       ),
     )
 
 pub returns-clause-answer : goal.returns-clause-answer
 returns-clause-answer g c =
     let w = returns-clause-took g c in
-    told (g.S.Source.left c.args.source.now) (g.S.Source.left c.read_mail.new.source) c.args.self.now c.read_mail.new.self w.0 (taken.Mail c.in_ok-bytes.bytes) w.1 c.in_ok-bytes.ensures.end w.2.0
+    answer_known (g.S.Source.left c.args.source.now) (g.S.Source.left c.read_mail.new.source) c.args.self.now c.read_mail.new.self w.0 (taken.Mail c.in_ok-bytes.bytes) w.1 c.in_ok-bytes.ensures.end w.2.0
 
-pub returns-clause-stands : goal.returns-clause-stands
-returns-clause-stands g c =
+pub returns-clause-position : goal.returns-clause-position
+returns-clause-position g c =
     let w = returns-clause-took g c in
-    stands (g.S.Source.left c.args.source.now) (g.S.Source.left c.read_mail.new.source) c.args.self.now c.read_mail.new.self w.0 c.in_ok-found.ensures.before c.in_ok-bytes.ensures.fewer w.1 w.2.1
+    at_position (g.S.Source.left c.args.source.now) (g.S.Source.left c.read_mail.new.source) c.args.self.now c.read_mail.new.self w.0 c.in_ok-found.ensures.before c.in_ok-bytes.ensures.fewer w.1 w.2.1
 
-pub returns-then-not-found-clause-stands : goal.returns-then-not-found-clause-stands
-returns-then-not-found-clause-stands g c =
+pub returns-then-not-found-clause-position : goal.returns-then-not-found-clause-position
+returns-then-not-found-clause-position g c =
     let s = c.in_ok-found.ensures.took in
-    stands (g.S.Source.left c.args.source.now) (g.S.Source.left c.reach.new.source) c.args.self.now c.reach.new.self s.0 c.in_ok-found.ensures.before c.in_ok-found.ensures.fewer s.1 s.2.1
+    at_position (g.S.Source.left c.args.source.now) (g.S.Source.left c.reach.new.source) c.args.self.now c.reach.new.self s.0 c.in_ok-found.ensures.before c.in_ok-found.ensures.fewer s.1 s.2.1

@@ -1,18 +1,18 @@
 use Rattle.std.proofs.Common.{ap, ◌∙◌, false}
-use Rattle.mboxrd.specs.Standing.{Reading}
+use Rattle.mboxrd.specs.Reading.{Reading}
 use Rattle.mboxrd.proofs.Skipped.{skipped}
 use Rattle.mboxrd.proofs.reader.MboxReader.skip.Goals as goal
 
 pub returns-clause-moved : goal.returns-clause-moved
 returns-clause-moved g c =
     let t = c.in_ok-dropped.ensures.took in
-    (skipped (g.S.Source.left c.args.source.now) (g.S.Source.left c.skip.new.source) c.args.self.now c.self.inside.feed c.skip.new.self c.self.inside.at_separator
+    (skipped (g.S.Source.left c.args.source.now) (g.S.Source.left c.skip.new.source) c.args.self.now c.self.inside.buffer c.skip.new.self c.self.inside.at_separator
     c.self.inside.place c.position-self-inside.result c.self.inside.refused false t.0 c.in_ok-dropped.dropped
     c.self.view_is (ap (λ (r : Reading). r.at_separator) c.self.view_is ∙ c.requires.first) c.self.invariant c.in_ok-dropped.ensures.fewer t.1 t.2).0
 
-pub returns-clause-stands : goal.returns-clause-stands
-returns-clause-stands g c =
+pub returns-clause-position : goal.returns-clause-position
+returns-clause-position g c =
     let t = c.in_ok-dropped.ensures.took in
-    (skipped (g.S.Source.left c.args.source.now) (g.S.Source.left c.skip.new.source) c.args.self.now c.self.inside.feed c.skip.new.self c.self.inside.at_separator
+    (skipped (g.S.Source.left c.args.source.now) (g.S.Source.left c.skip.new.source) c.args.self.now c.self.inside.buffer c.skip.new.self c.self.inside.at_separator
     c.self.inside.place c.position-self-inside.result c.self.inside.refused false t.0 c.in_ok-dropped.dropped
     c.self.view_is (ap (λ (r : Reading). r.at_separator) c.self.view_is ∙ c.requires.first) c.self.invariant c.in_ok-dropped.ensures.fewer t.1 t.2).1

@@ -1,7 +1,7 @@
 use Rattle.std.proofs.Common.{◌≡◌, ◌+◌, ◌==◌, length, vec_len, rules, sym, ap, subst, ◌∙◌, arith}
 use Rattle.std.proofs.lemmas.List.Elements.{All-push, All-same}
 use Rattle.mime_parts.specs.Trees.{is_digest, kind_of, opened, part}
-use Rattle.mime_parts.specs.Walks.{IsNodeWithin}
+use Rattle.mime_parts.specs.Trees.{IsNodeWithin}
 use Rattle.mime_parts.proofs.WalkLemmas.{stack-step, work-within}
 use Rattle.mime_parts.proofs.tree.Walk.enter.Goals as goal
 

@@ -1,0 +1,34 @@
+//! Dispositions.
+ghost use Rattle.std.specs.Prelude.{◌≡◌, IfOk};
+ghost use Rattle.mime_fields.specs.Kinds.{disposition};
+
+use crate::param::value_in;
+use crate::raw_param::raw_params;
+use crate::segment::main_word;
+use kit::{Memory, Text, same_name};
+use std::alloc::Global;
+
+/// The disposition of a part (RFC 2183), as `attachment; filename=plan.pdf`.
+#[derive(Debug, Drop)]
+pub struct Disposition {
+    /// Whether the part is an attachment (section 2.2).
+    pub attach: bool,
+    /// Its file name (section 2.3), which may be any text; empty where none is given.
+    pub name: Text,
+}
+
+/// What the body of a Content-Disposition field says, of any bytes and any length (RFC 2183, section 2). Takes memory;
+/// `Err` only when it runs out.
+///
+/// The body is cut into segments as that of a Content-Type is. It says an attachment where the first segment, up to
+/// white space or a `(`, is `attachment`, without the case of letters. The file name is the value of the parameter
+/// `filename`, read as those of a content type are (RFC 2231), also where it says something else than an attachment.
+pub fn read_disposition(alloc: Global, body: &[u8]) -> Result<Disposition, Memory>
+    ensures { IfOk result (λ read. read ≡ disposition body.now) }
+{
+    let name = value_in(alloc, &raw_params(alloc, body)?, "filename")?;
+    Ok(Disposition {
+        attach: same_name(main_word(body), b"attachment"),
+        name: name.unwrap_or(Text::from(String::new(alloc))),
+    })
+}
