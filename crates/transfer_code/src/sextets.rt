@@ -1,34 +1,65 @@
 //! Base64.
-ghost use Rattle.std.specs.Prelude.{◌≡◌, ℕ, not, ◌==◌, List, Ok, filter, take_while, IfOk, OnOk};
+ghost use Rattle.std.specs.Prelude.{◌≡◌, ◌++◌, ◌<◌, ℕ, not, List, Ok, length, position, IfOk, IfSome, OnOk};
 ghost use Rattle.base64.specs.Engines.{standard_no_pad};
 ghost use Rattle.base64.specs.GeneralPurpose.{decode_of, encode_of, IsBytes};
-ghost use Rattle.transfer_code.specs.Base64.{IsEncoded, is_symbol, completed, decode_base64};
+ghost use Rattle.transfer_code.specs.Base64.{IsEncoded, is_symbol, completed, decode_base64, symbols_before_padding};
 
 use base64::DecodeAllocError;
 use base64::engine::general_purpose::STANDARD_NO_PAD;
 use kit::Memory;
 use std::alloc::Global;
 
-const ALPHABET: [u8; 64] = *b"ABCDEFGHIJKLMNOPQRSTUVWXYZabcdefghijklmnopqrstuvwxyz0123456789+/";
+/// At the index of each byte that byte, if it is a symbol, and else a `.`, which is none.
+const SYMBOLS: [u8; 256] = *b"\
+    ................................\
+    ...........+.../0123456789......\
+    .ABCDEFGHIJKLMNOPQRSTUVWXYZ.....\
+    .abcdefghijklmnopqrstuvwxyz.....\
+    ................................\
+    ................................\
+    ................................\
+    ................................";
 
 fn is_symbol(b: u8) -> bool
     ensures { result ≡ is_symbol b }
 {
-    ALPHABET.contains(&b)
+    SYMBOLS[usize::from(b)] != b'.'
+}
+
+/// The offset of the first byte that is no symbol.
+fn first_other(bytes: &[u8]) -> Option<usize>
+    ensures value { result ≡ position (λ b. not (is_symbol b)) bytes.now }
+    ensures bound { IfSome result (λ at. at < length bytes.now) }
+{
+    bytes.iter().position(|b| !is_symbol(*b))
+}
+
+/// The symbols before the first byte that is none, and what is left to read after that byte: nothing, if it
+/// is a `=`.
+fn split_symbols(bytes: &[u8]) -> (&[u8], &[u8])
+    ensures value { symbols_before_padding bytes.now ≡ result.0.now ++ symbols_before_padding result.1.now }
+    ensures shorter { 0 < length bytes.now → length result.1.now < length bytes.now }
+{
+    match first_other(bytes) {
+        None => (bytes, b""),
+        Some(at) if bytes[at] == b'=' => (&bytes[..at], b""),
+        Some(at) => (&bytes[..at], &bytes[at + 1..]),
+    }
 }
 
 /// The symbols before the first `=`.
 fn symbols_of(alloc: Global, bytes: &[u8]) -> Result<Vec<u8>, Memory>
-    ensures { IfOk result (λ symbols. symbols.items ≡ filter is_symbol (take_while (λ b. not (b == 61)) bytes.now)) }
+    ensures { IfOk result (λ symbols. symbols.items ≡ symbols_before_padding bytes.now) }
 {
-    Ok(
-        bytes
-            .iter()
-            .copied()
-            .take_while(|b| *b != b'=')
-            .filter(|b| is_symbol(*b))
-            .collect(alloc)?,
-    )
+    // Room for all bytes and for the two that `complete` adds at most, so that nothing is moved.
+    let mut symbols = Vec::with_capacity(alloc, bytes.len() + 2)?;
+    let mut left = bytes;
+    while !left.is_empty() {
+        let (run, rest) = split_symbols(left);
+        symbols.extend_from_slice(run)?;
+        left = rest;
+    }
+    Ok(symbols)
 }
 
 /// Makes whole groups of four of the symbols: one left over is dropped, and two or three are filled up
