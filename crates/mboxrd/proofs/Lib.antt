@@ -1,5 +1,6 @@
 pub mod GluedLines
 pub mod Stepping
+pub mod Unchanged
 pub mod Prefixes
 pub mod Taking
 pub mod NextMail

@@ -269,10 +269,8 @@ separator_to (b ∷ l) bs (suc end) lt none is =
     separator_other b (raw_lines (take (suc end) l ++ bs)) (λ e. none 0 (omega arith) (omega arith) (eq-eqb b 10 e))
     ∙ separator_to l bs end (omega arith) (λ k low high. none (suc k) (omega arith) (omega arith)) is
 
-pub steps_inside : (l : List ℕ) (r : Option ℕ) → IsFirstByte (is_byte 10) l r → r ≡ None → StepsTo Inside (take (length l) l) l (Some Inside)
-steps_inside l r first is =
-    let none = subst (IsFirstByte (is_byte 10) l) is first in
-    (tt, λ bs. ap (λ z. remaining_from Inside (z ++ bs)) (take_all (length l) l (omega arith)) ∙ inside_all l bs none)
+pub steps_inside : (l : List ℕ) (r : Option ℕ) → IsFirstByte (is_byte 10) l r → r ≡ None → StepsTo Inside l l (Some Inside)
+steps_inside l r first is = let none = subst (IsFirstByte (is_byte 10) l) is first in (tt, λ bs. inside_all l bs none)
 
 pub steps_inside_line : (l : List ℕ) (r : Option ℕ) (end : ℕ) → IsFirstByte (is_byte 10) l r → r ≡ Some end
     → StepsTo Inside (take (end + 1) l) (take (end + 1) l) (Some (Start Text))

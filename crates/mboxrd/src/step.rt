@@ -1,8 +1,9 @@
 //! What a reader does with the next bytes of a line.
-ghost use Rattle.std.specs.Prelude.{◌≡◌, ◌<◌, ◌≤◌, ◌&&◌, ◌==◌, ℕ, List, [], ◌∷◌, length, take, IfOk, OnOk, Some, None};
+ghost use Rattle.std.specs.Prelude.{◌≡◌, ◌<◌, ◌≤◌, ◌&&◌, ◌==◌, ℕ, List, [], ◌∷◌, length, take, IfOk, OnOk, Some, None, true};
 ghost use Rattle.mboxrd.specs.Prefix.{Keeps};
 ghost use Rattle.mboxrd.specs.LineStates.{StepsTo, IsLineState, EndsWith, state_after, separator_may_follow, withheld_line};
 ghost use Rattle.mboxrd.specs.declared.line_state.LineState.TheVariants as state;
+ghost use Rattle.mboxrd.specs.declared.line_state.Preceding.TheVariants as before;
 
 use crate::line_state::{LineState, Preceding};
 use crate::mail_prefix::MailPrefix;
@@ -133,29 +134,49 @@ fn at_cr(b: u8, mail: &mut MailPrefix) -> Result<LineState, Memory>
     Ok(LineState::Inside)
 }
 
-// Reads to the end of a line that the mail has as it is, or all that is held.
+// Whether the mail has a line after one of text as it is, since it begins with this byte. An empty line may be withheld,
+// and a quoted one loses a `>`. `F` begins no separator line there, since none follows one of text.
+fn begins_text(b: u8) -> bool
+    ensures { result ≡ true → StepsTo (state.Start before.Text) (b ∷ []) (b ∷ []) (Some state.Inside) }
+{
+    !matches!(b, b'>' | b'\n' | b'\r')
+}
+
+// From within a line, what the mail has as it is: up to the end of a line after which an empty or a quoted one may
+// follow, or all that is held.
+fn unchanged(held: &[u8]) -> Step
+    requires { 0 < length held.now }
+    ensures some { 0 < result.read }
+    ensures within { result.read ≤ length held.now }
+    ensures steps { StepsTo state.Inside (take result.read held.now) (take result.read held.now) result.next }
+{
+    let mut read = 0;
+    while let Some(end) = memchr(b'\n', &held[read..]) {
+        let line_end = read + end + 1;
+        if line_end == held.len() || !begins_text(held[line_end]) {
+            return Step {
+                read: line_end,
+                next: Some(LineState::Start(Preceding::Text)),
+            };
+        }
+        read = line_end + 1;
+    }
+    Step {
+        read: held.len(),
+        next: Some(LineState::Inside),
+    }
+}
+
+// Adds to the mail at once all that it has as it is: a step for each line would take most of a reader's time.
 fn inside(held: &[u8], mail: &mut MailPrefix) -> Result<Step, Memory>
     requires { 0 < length held.now }
     ensures some { IfOk result (λ step. 0 < step.read) }
     ensures within { IfOk result (λ step. step.read ≤ length held.now) }
     ensures steps { IfOk result (λ step. (added : List ℕ) × Keeps mail.old mail.new added × StepsTo state.Inside (take step.read held.now) added step.next) }
 {
-    match memchr(b'\n', held) {
-        Some(end) => {
-            mail.keep(&held[..end + 1])?;
-            Ok(Step {
-                read: end + 1,
-                next: Some(LineState::Start(Preceding::Text)),
-            })
-        }
-        None => {
-            mail.keep(held)?;
-            Ok(Step {
-                read: held.len(),
-                next: Some(LineState::Inside),
-            })
-        }
-    }
+    let step = unchanged(held);
+    mail.keep(&held[..step.read])?;
+    Ok(step)
 }
 
 // The same of a separator line, which is not of the mail.
@@ -186,8 +207,8 @@ impl Step {
     }
 }
 
-/// Reads the next byte of what is held, or all up to the end of the line where that is a separator line or one that
-/// the mail has as it is. Takes memory for what is added to the mail.
+/// Reads the next byte of what is held, or all up to the end of a separator line, or as many lines as the mail has as
+/// they are. Takes memory for what is added to the mail.
 pub fn read_on(state: LineState, held: &[u8], mail: &mut MailPrefix) -> Result<Step, Memory>
     requires state { IsLineState state }
     requires some { 0 < length held.now }
