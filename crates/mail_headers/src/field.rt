@@ -51,13 +51,23 @@ fn push_continuation(body: &mut Vec<u8>, following: &[&[u8]]) -> Result<(), Memo
     Ok(())
 }
 
-/// The body of a field of which this is the rest of the first line.
+/// The body of a field of which this is the rest of the first line, unfolded.
+fn unfolded(alloc: Global, rest: &[u8], following: &[&[u8]]) -> Result<Bytes, Memory>
+    ensures { IfOk result (λ body. body ≡ trim (rest.now ++ continuation (map (λ line. line.now) following.now))) }
+{
+    let mut body = Vec::from_slice(alloc, rest)?;
+    push_continuation(&mut body, following)?;
+    Bytes::from_slice(alloc, trim(&body))
+}
+
+/// The body of a field of which this is the rest of the first line. Most are of one line, which is copied once.
 fn body_of(alloc: Global, rest: &[u8], following: &[&[u8]]) -> Result<Bytes, Memory>
     ensures { IfOk result (λ body. body ≡ trim (rest.now ++ continuation (map (λ line. line.now) following.now))) }
 {
-    let mut unfolded = Vec::from_slice(alloc, rest)?;
-    push_continuation(&mut unfolded, following)?;
-    Bytes::from_slice(alloc, trim(&unfolded))
+    match following {
+        [next, ..] if continues(next) => unfolded(alloc, rest, following),
+        _ => Bytes::from_slice(alloc, trim(rest)),
+    }
 }
 
 /// The fields that begin in these lines, which are without their line ends. A line that begins no

@@ -15,11 +15,14 @@ pub struct Span {
     pub end: usize,
 }
 
-/// Whether a line is a text, with nothing but white space after it.
+/// Whether a line is a text, with nothing but white space after it. Most lines differ in their first byte already.
 fn is_only(text: &[u8], line: &[u8]) -> bool
     ensures { result ≡ is_only text.now line.now }
 {
-    line.starts_with(text) && is_blank(&line[text.len()..])
+    match (text, line) {
+        ([first, ..], [other, ..]) if first != other => false,
+        _ => line.starts_with(text) && is_blank(&line[text.len()..]),
+    }
 }
 
 /// A part that goes on to an offset, if one is begun.
