@@ -46,15 +46,13 @@ fn is_chat(header: &Header) -> bool
     has_field(header, b"Chat-Version")
 }
 
-/// The body of a field of a chat, which is empty in other mails.
-fn chat_field<'a>(header: &'a Header, name: &[u8]) -> &'a [u8]
+/// The body of a field of a chat, which is empty in other mails. Whether a chat program sent the mail is given, since it
+/// is asked for each field.
+fn chat_field<'a>(chat: bool, header: &'a Header, name: &[u8]) -> &'a [u8]
+    requires { chat ≡ is_chat header.now }
     ensures { result.now ≡ chat_field header.now name.now }
 {
-    if is_chat(header) {
-        header.field(name)
-    } else {
-        b""
-    }
+    if chat { header.field(name) } else { b"" }
 }
 
 /// The first address in a body.
@@ -78,15 +76,19 @@ fn timer_of(body: &[u8]) -> u32
 pub fn read_requests(alloc: Global, header: &Header) -> Result<Requests, Memory>
     ensures { IfOk result (λ requests. requests ≡ requests_of header.now) }
 {
+    let chat = is_chat(header);
     Ok(Requests {
-        chat: is_chat(header),
-        group: GroupId::read(alloc, chat_field(header, b"Chat-Group-ID"))?,
-        group_name: decode_words(alloc, chat_field(header, b"Chat-Group-Name"))?,
-        added: address_in(alloc, chat_field(header, b"Chat-Group-Member-Added"))?,
-        removed: address_in(alloc, chat_field(header, b"Chat-Group-Member-Removed"))?,
-        renamed: is_chat(header) && has_field(header, b"Chat-Group-Name-Changed"),
-        edit: first_id(alloc, chat_field(header, b"Chat-Edit"))?,
-        deletes: Items::from(ids(alloc, chat_field(header, b"Chat-Delete"))?),
-        timer: timer_of(chat_field(header, b"Ephemeral-Timer")),
+        chat,
+        group: GroupId::read(alloc, chat_field(chat, header, b"Chat-Group-ID"))?,
+        group_name: decode_words(alloc, chat_field(chat, header, b"Chat-Group-Name"))?,
+        added: address_in(alloc, chat_field(chat, header, b"Chat-Group-Member-Added"))?,
+        removed: address_in(
+            alloc,
+            chat_field(chat, header, b"Chat-Group-Member-Removed"),
+        )?,
+        renamed: chat && has_field(header, b"Chat-Group-Name-Changed"),
+        edit: first_id(alloc, chat_field(chat, header, b"Chat-Edit"))?,
+        deletes: Items::from(ids(alloc, chat_field(chat, header, b"Chat-Delete"))?),
+        timer: timer_of(chat_field(chat, header, b"Ephemeral-Timer")),
     })
 }
