@@ -1,72 +1,87 @@
 //! Copies of cards.
 ghost use Rattle.std.specs.Prelude.{◌≡◌, IfOk};
-ghost use Rattle.card_type.specs.CardParts.{envelope_of, requests_of, shown_of, joined};
+ghost use Rattle.card_type.specs.CardParts.{people_of, links_of, group_of, shown_of, acts_of, joined};
 
 use crate::card::{Attachment, Card, Update};
 use crate::group_id::GroupId;
 use kit::{Addr, Id, Memory, Text};
 use lists::{Items, copy_option};
 
-// A card is copied in three parts: what a copy has to give back when memory runs out grows with each field,
+// A card is copied in five parts: what a copy has to give back when memory runs out grows with each field,
 // and so does its proof.
 
-/// Who wrote to whom, in answer to what.
+/// Who wrote to whom.
 #[derive(Drop)]
-struct Envelope {
-    id: Id,
+struct People {
     from: Addr,
     from_name: Text,
     to: Items<Addr>,
     cc: Items<Addr>,
+}
+
+/// The ids of a mail, and of those that it answers.
+#[derive(Drop)]
+struct Links {
+    id: Id,
     replies: Items<Id>,
     references: Items<Id>,
 }
 
-/// What a mail of a chat requests.
+/// The group, and whom the mail adds to it or removes.
 #[derive(Drop)]
-struct Requests {
+struct Group {
     group: Option<GroupId>,
     group_name: Text,
     added: Option<Addr>,
     removed: Option<Addr>,
-    edit: Option<Id>,
-    deletes: Items<Id>,
 }
 
-/// What is shown, and what is said to other programs.
+/// What the mail shows.
 #[derive(Drop)]
 struct Shown {
     subject: Text,
     text: Text,
     attachments: Items<Attachment>,
+}
+
+/// What the mail does to other mails.
+#[derive(Drop)]
+struct Acts {
+    edit: Option<Id>,
+    deletes: Items<Id>,
     receipt: Option<Id>,
     updates: Items<Update>,
 }
 
-fn copy_envelope(card: &Card) -> Result<Envelope, Memory>
-    ensures { IfOk result (λ envelope. envelope ≡ envelope_of card.now) }
+fn copy_people(card: &Card) -> Result<People, Memory>
+    ensures { IfOk result (λ people. people ≡ people_of card.now) }
 {
-    Ok(Envelope {
-        id: card.id.copy()?,
+    Ok(People {
         from: card.from.copy()?,
         from_name: card.from_name.copy()?,
         to: card.to.copy()?,
         cc: card.cc.copy()?,
+    })
+}
+
+fn copy_links(card: &Card) -> Result<Links, Memory>
+    ensures { IfOk result (λ links. links ≡ links_of card.now) }
+{
+    Ok(Links {
+        id: card.id.copy()?,
         replies: card.replies.copy()?,
         references: card.references.copy()?,
     })
 }
 
-fn copy_requests(card: &Card) -> Result<Requests, Memory>
-    ensures { IfOk result (λ requests. requests ≡ requests_of card.now) }
+fn copy_group(card: &Card) -> Result<Group, Memory>
+    ensures { IfOk result (λ group. group ≡ group_of card.now) }
 {
-    Ok(Requests {
+    Ok(Group {
         group: copy_option(&card.group)?,
         group_name: card.group_name.copy()?,
         added: copy_option(&card.added)?,
         removed: copy_option(&card.removed)?,
-        edit: copy_option(&card.edit)?,
-        deletes: card.deletes.copy()?,
     })
 }
 
@@ -77,40 +92,49 @@ fn copy_shown(card: &Card) -> Result<Shown, Memory>
         subject: card.subject.copy()?,
         text: card.text.copy()?,
         attachments: card.attachments.copy()?,
+    })
+}
+
+fn copy_acts(card: &Card) -> Result<Acts, Memory>
+    ensures { IfOk result (λ acts. acts ≡ acts_of card.now) }
+{
+    Ok(Acts {
+        edit: copy_option(&card.edit)?,
+        deletes: card.deletes.copy()?,
         receipt: copy_option(&card.receipt)?,
         updates: card.updates.copy()?,
     })
 }
 
 /// The card of which these are the parts, with the numbers and flags of another.
-fn joined(envelope: Envelope, requests: Requests, shown: Shown, card: &Card) -> Card
-    ensures { result ≡ joined envelope requests shown card.now }
+fn joined(people: People, links: Links, group: Group, shown: Shown, acts: Acts, card: &Card) -> Card
+    ensures { result ≡ joined people links group shown acts card.now }
 {
     Card {
-        id: envelope.id,
-        from: envelope.from,
-        from_name: envelope.from_name,
-        to: envelope.to,
-        cc: envelope.cc,
+        id: links.id,
+        from: people.from,
+        from_name: people.from_name,
+        to: people.to,
+        cc: people.cc,
         date: card.date,
-        replies: envelope.replies,
-        references: envelope.references,
+        replies: links.replies,
+        references: links.references,
         chat: card.chat,
-        group: requests.group,
-        group_name: requests.group_name,
-        added: requests.added,
-        removed: requests.removed,
+        group: group.group,
+        group_name: group.group_name,
+        added: group.added,
+        removed: group.removed,
         renamed: card.renamed,
-        edit: requests.edit,
-        deletes: requests.deletes,
+        edit: acts.edit,
+        deletes: acts.deletes,
         timer: card.timer,
         subject: shown.subject,
         text: shown.text,
         cut: card.cut,
         attachments: shown.attachments,
-        receipt: shown.receipt,
+        receipt: acts.receipt,
         app: card.app,
-        updates: shown.updates,
+        updates: acts.updates,
     }
 }
 
@@ -119,9 +143,11 @@ impl Card {
     pub fn copy(&self) -> Result<Self, Memory>
         ensures { IfOk result (λ copy. copy ≡ self.now) }
     {
-        let envelope = copy_envelope(self)?;
-        let requests = copy_requests(self)?;
+        let people = copy_people(self)?;
+        let links = copy_links(self)?;
+        let group = copy_group(self)?;
         let shown = copy_shown(self)?;
-        Ok(joined(envelope, requests, shown, self))
+        let acts = copy_acts(self)?;
+        Ok(joined(people, links, group, shown, acts, self))
     }
 }
