@@ -2,7 +2,6 @@
 use Rattle.std.proofs.Common.{◌≡◌, ℕ, ◌<◌, Bool, true, ◌&&◌, ◌||◌, ◌==◌, nat_le, List, [], ◌∷◌, length, Some, refl, arith, inl, inr}
 use Rattle.std.proofs.lemmas.Bool.{and_parts, cases_Bool}
 use Rattle.std.proofs.lemmas.Bool.Decides.{nat_tests}
-use Rattle.std.proofs.lemmas.List.Sums.{AllPass-from_list_all, list_all-from_AllPass}
 use Rattle.std.specs.Char.{to_ascii_lowercase, is_ascii_alphanumeric}
 use Rattle.std.specs.List.{list_all, slice_split, onto_first}
 use Rattle.std.specs.Cmp.Derive.{both_true}
@@ -12,7 +11,9 @@ use Rattle.kit.specs.Ids.{is_id, is_id_byte}
 use Rattle.kit.specs.Letters.{lowered}
 use Rattle.kit.specs.Printing.{is_printing_byte}
 use Rattle.kit.specs.Reading.{read_as}
+use Rattle.kit.proofs.LetterLemmas.{lowered-all}
 use Rattle.kit.proofs.Utf8Lemmas.{addr_bytes, utf8_from_all}
+use Rattle.lists.proofs.Elements.{list_all-weaker}
 use Rattle.follow.specs.Plain.{is_plain_byte, is_plain_text, plain_address, is_plain_word, is_plain_name}
 
 plain_lowercase : (b : ℕ) → is_plain_byte b ≡ true → to_ascii_lowercase b ≡ b
@@ -20,12 +21,7 @@ plain_lowercase b h = grind (arith, nat_tests)
 
 -- plain bytes have no capital letter
 pub lowered-plain : (bs : List ℕ) → list_all is_plain_byte bs ≡ true → lowered bs ≡ bs
-lowered-plain [] h = refl
-lowered-plain (b ∷ bs) h =
-    let both = and_parts (is_plain_byte b) (list_all is_plain_byte bs) h in
-    let first : to_ascii_lowercase b ≡ b = plain_lowercase b both.0 in
-    let rest : lowered bs ≡ bs = lowered-plain bs both.1 in
-    cc
+lowered-plain = lowered-all is_plain_byte plain_lowercase
 
 addr_byte_id : (b : ℕ) → is_addr_byte b ≡ true → is_id_byte b ≡ true
 addr_byte_id b h = grind (arith, nat_tests)
@@ -40,9 +36,6 @@ text_utf8 = utf8_from_all is_printing_byte text_byte_ascii
 pub plain_address-read : (bs : List ℕ) → list_all is_plain_byte bs ≡ true → read_as is_addr (lowered bs) ≡ plain_address bs
 plain_address-read bs h = rw (lowered-plain bs h, h) refl
 
-list_all_weaker : (p q : ℕ → Bool) → ((b : ℕ) → p b ≡ true → q b ≡ true) → (bs : List ℕ) → list_all p bs ≡ true → list_all q bs ≡ true
-list_all_weaker p q h bs all = list_all-from_AllPass q bs (λ k d lt. h _ (AllPass-from_list_all p bs all k d lt))
-
 -- an address reads as an id
 pub is_id-from_addr : (bs : List ℕ) → is_addr bs ≡ true → is_id bs ≡ true
 is_id-from_addr bs h =
@@ -50,7 +43,7 @@ is_id-from_addr bs h =
     let inner = and_parts _ _ colons.0 in
     let bytes = and_parts _ _ inner.0 in
     let lengths = and_parts _ _ bytes.0 in
-    let each : list_all is_id_byte bs ≡ true = list_all_weaker is_addr_byte is_id_byte addr_byte_id bs (addr_bytes bs h) in
+    let each : list_all is_id_byte bs ≡ true = list_all-weaker is_addr_byte is_id_byte addr_byte_id bs (addr_bytes bs h) in
     let low : nat_le 3 (length bs) ≡ true = lengths.0 in
     let high : nat_le (length bs) 254 ≡ true = lengths.1 in
     rw each (grind (arith, nat_tests))
