@@ -1,12 +1,12 @@
 //! The text that a mail shows.
-ghost use Rattle.std.specs.Prelude.{◌≡◌, ◌∷◌, ◌++◌, IfOk, OnOk, if◌then◌else◌, map, string_bytes};
+ghost use Rattle.std.specs.Prelude.{◌≡◌, IfOk, map};
 ghost use Rattle.std.specs.List.{filter_map, join_with_byte};
 ghost use Rattle.chat_card.specs.Shown.{text_in, text_of};
 ghost use Rattle.chat_card.specs.Views.{kept};
 
 use crate::leaf::Kept;
 use crate::part::{Part, param};
-use flowed_text::{unflow, user_text};
+use flowed_text::{push_line, unflow, user_text};
 use kit::{Memory, Text, charset_of, same_name, to_text};
 use std::alloc::Global;
 
@@ -24,16 +24,6 @@ fn text_in(alloc: Global, part: &Part) -> Result<Text, Memory>
     user_text(alloc, &text)
 }
 
-/// Adds a text, after an LF if it is not the first.
-fn push_text(shown: &mut String, first: bool, text: &str) -> Result<(), Memory>
-    ensures { OnOk result (string_bytes shown.new ≡ string_bytes shown.old ++ (if first then text.now else 10 ∷ text.now)) }
-{
-    if !first {
-        shown.push('\n')?;
-    }
-    Ok(shown.push_str(text)?)
-}
-
 /// The text of parts that are kept: that of each that is a text, with an LF between each two.
 pub fn shown_text(alloc: Global, parts: &[Kept<'_>]) -> Result<Text, Memory>
     ensures { IfOk result (λ text. text ≡ join_with_byte 10 (filter_map text_of (map kept parts.now))) }
@@ -42,7 +32,7 @@ pub fn shown_text(alloc: Global, parts: &[Kept<'_>]) -> Result<Text, Memory>
     let mut first = true;
     for part in parts {
         if let Kept::Text(part) = part {
-            push_text(&mut shown, first, text_in(alloc, part)?.as_str())?;
+            push_line(&mut shown, first, text_in(alloc, part)?.as_str())?;
             first = false;
         }
     }

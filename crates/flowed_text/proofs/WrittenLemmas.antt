@@ -1,9 +1,11 @@
 -- How a loop over the lines writes the joined lines.
-use Rattle.std.proofs.Common.{◌≡◌, ℕ, Bool, true, false, List, [], ◌∷◌, ◌++◌, refl, sym, ap, ◌∙◌, append_assoc}
-use Rattle.std.specs.Prelude.{◌&&◌, if◌then◌else◌}
+use Rattle.std.proofs.Common.{◌≡◌, ℕ, Bool, true, false, List, [], ◌∷◌, ◌++◌, length, map, refl, sym, ap, ◌∙◌, append_assoc, inl, inr}
+use Rattle.std.specs.Prelude.{◌&&◌, ◌==◌, if◌then◌else◌}
 use Rattle.std.proofs.lemmas.List.{append-nil}
-use Rattle.flowed_text.specs.Writing.{line_end}
-use Rattle.flowed_text.specs.Flowed.{Quoted, unspaced, runs_on, put_line, joined, marks, written}
+use Rattle.std.proofs.lemmas.Bool.{cases_Bool, false≢true}
+use Rattle.kit.specs.Lines.{raw_lines, content, put_before}
+use Rattle.flowed_text.specs.Writing.{break_before, line_end}
+use Rattle.flowed_text.specs.Flowed.{Quoted, line_texts, quoted_line, unspaced, runs_on, put_line, joined, marks, written}
 
 -- what is written of lines, the first of which continues the one before it, or does not
 abbrev pub written_from : Bool → Bool → List Quoted → List ℕ
@@ -63,3 +65,13 @@ written_from-begun delsp [] = refl
 written_from-begun delsp (line ∷ more) =
     ap (λ t. marks line.depth ++ t) (written_from-continued delsp (line ∷ more))
     ∙ sym (written-put_line delsp (runs_on line more) line (joined delsp more))
+
+-- ---- the LF between a line and the text that follows it
+
+pub break_before_text : (text : List ℕ) → (length text == 0) ≡ false → break_before (map quoted_line (line_texts text)) ≡ 10 ∷ []
+break_before_text [] some = absurd (false≢true (sym some))
+break_before_text (b ∷ bs) some = go (raw_lines bs)
+  where
+    go : (raws : List (List ℕ)) → break_before (map quoted_line (map content (put_before b raws))) ≡ 10 ∷ []
+    go [] = refl
+    go (raw ∷ raws) = elim (cases_Bool (b == 10)) [ inl is ↦ rw is refl | inr other ↦ rw other refl ]

@@ -12,10 +12,13 @@ use std::alloc::Global;
 fn runs_on(line: &QuotedLine, rest: &str) -> bool
     ensures { result ≡ runs_on (shown line.now) (map quoted_line (line_texts rest.now)) }
 {
+    if !is_soft(line.text) {
+        return false;
+    }
     match split_text_line(rest) {
         Some((next, _further)) => {
             let next = quoted_line(next);
-            is_soft(line.text) && line.depth == next.depth && !is_signature(next.text)
+            line.depth == next.depth && !is_signature(next.text)
         }
         None => false,
     }
@@ -46,10 +49,10 @@ fn push_text(out: &mut String, text: &str, drops_space: bool) -> Result<(), Memo
 fn push_break(out: &mut String, rest: &str) -> Result<(), Memory>
     ensures { OnOk result (string_bytes out.new ≡ string_bytes out.old ++ break_before (map quoted_line (line_texts rest.now))) }
 {
-    match split_text_line(rest) {
-        Some(_) => Ok(out.push('\n')?),
-        None => Ok(()),
+    if !rest.is_empty() {
+        out.push('\n')?;
     }
+    Ok(())
 }
 
 /// Adds what follows the marks of a line, up to the next line, and returns whether that continues it.

@@ -6,4 +6,4 @@ mod quoted;
 mod signature;
 
 pub use flowed::unflow;
-pub use signature::user_text;
+pub use signature::{push_line, user_text};

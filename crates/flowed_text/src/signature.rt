@@ -12,8 +12,9 @@ pub fn is_signature(line: &str) -> bool
     line == "-- "
 }
 
-/// Adds a line, after an LF unless it is the first.
-fn push_line(above: &mut String, first: bool, line: &str) -> Result<(), Memory>
+/// Appends a line to others, after an LF unless it is the first of them. What is appended may have lines of
+/// its own. Takes memory; `Err` only when it runs out.
+pub fn push_line(above: &mut String, first: bool, line: &str) -> Result<(), Memory>
     ensures { OnOk result (string_bytes above.new ≡ string_bytes above.old ++ (if first then line.now else 10 ∷ line.now)) }
 {
     if !first {
