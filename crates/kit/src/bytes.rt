@@ -13,8 +13,7 @@ use std::cmp::Ordering;
 use std::hash::{Hash, Hasher};
 use std::marker::Model;
 
-/// A list of bytes of any length, compared byte by byte. What is built over it, as `Text`, derives
-/// its traits: only here are they written by hand.
+/// A list of bytes of any length, compared byte by byte. What is built over it, as `Id`, derives its traits.
 #[derive(Debug, Drop)]
 pub struct Bytes {
     items: Vec<u8>,
