@@ -12,8 +12,8 @@ any_next m next AllContacts = refl
 any_next m next (AllUpdates id) = refl
 any_next m next (InfoUpdates id) = refl
 
-pub same_answer : (m n : Mailbox) → m.me ≡ n.me → m.now ≡ n.now → m.items ≡ n.items → (question : Question)
+pub same_answer : (m n : Mailbox) → m.me ≡ n.me → m.now ≡ n.now → m.entries ≡ n.entries → (question : Question)
     → answer m question ≡ answer n question
-same_answer m n me now items question =
+same_answer m n me now entries question =
     any_next m n.next_uid question
-    ∙ (λ i. answer (record { me = me i; now = now i; next_uid = n.next_uid; items = items i }) question)
+    ∙ (λ i. answer (record { me = me i; now = now i; next_uid = n.next_uid; entries = entries i }) question)

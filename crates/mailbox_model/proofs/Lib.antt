@@ -3,9 +3,16 @@ pub mod MailLaws
 pub mod TurnLaws
 pub mod ChatLaws
 pub mod RuleLaws
+pub mod UidLaws
+pub mod StillLaws
+pub mod ActLaws
+pub mod CountLaws
+pub mod UpdateLaws
+pub mod MemberLaws
 pub mod PresentLaws
 pub mod ListLaws
 pub mod FrameLaws
+pub mod StateLaws
 pub mod AnswerLaws
 mod Worked
 mod Edges

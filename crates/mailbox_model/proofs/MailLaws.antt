@@ -21,16 +21,19 @@ use Rattle.mailbox_model.specs.declared.change.Fault.{Fault}
 use Rattle.mailbox_model.specs.declared.change.Change.TheVariants.{Arrive, ArriveFault, Expunge, Seen}
 use Rattle.lists.specs.Sorted.{insert_by, sorted_by}
 use Rattle.mailbox_model.specs.Lists.{Bytes}
-use Rattle.mailbox_model.specs.Mailbox.{Mailbox, Item, after, arrival, has_uid, marked, RiseBelow}
-use Rattle.mailbox_model.specs.Present.{Mail, mail_with, mail_by, mail_of, spot, mail_cmp, mails, same_id}
-use Rattle.mailbox_model.specs.Turns.{arriving, has_mail_uid, seen_at}
+use Rattle.mailbox_model.specs.Mailbox.{Mailbox, Entry, after, new_entry, has_uid, mark_entry, RiseBelow}
+use Rattle.mailbox_model.specs.Present.{Mail, placed_by, mail_by, mail_of, spot, mail_cmp, mails, same_id, same_uid}
+use Rattle.mailbox_model.specs.Turns.{arriving, is_mail, mark_mail}
 use Rattle.lists.proofs.Rising.{below_of, never_back, apart, second_Equal, Rising, IsAlike, IsBelow, filter-insert_by-kept, filter-insert_by-dropped}
 use Rattle.lists.proofs.Inserts.{agree, Placed, Rising-insert_by, None_of, All-insert_by, IsDistinct-insert_by}
+
+abbrev mail_with : Entry → Card → Mail
+mail_with entry card = record { placed = placed_by entry card; seen = entry.seen }
 
 -- ---- mail order is a strict order, and mails of one id are alike
 
 pub order : IsTotalOrder mail_cmp
-order = on_total spot spots_total
+order = on_total (λ t. spot t.placed) spots_total
 
 abbrev earlier : Mail → Mail → Bool
 earlier a b = is_lt (mail_cmp a b)
@@ -49,13 +52,10 @@ bytes_turn x y = agree (bytes_eq x y) (bytes_eq y x) (yes x y) (yes y x)
 
 pub is_alike : IsAlike same_id
 is_alike =
-    record { turn = λ x y. bytes_turn x.card.id y.card.id; alike = λ x y z e. ap (λ id. bytes_eq id z.card.id) ((bytes_decides x.card.id y.card.id).0 e) }
-
-abbrev pub same_uid : Mail → Mail → Bool
-same_uid a b = a.uid == b.uid
+    record { turn = λ x y. bytes_turn x.placed.card.id y.placed.card.id; alike = λ x y z e. ap (λ id. bytes_eq id z.placed.card.id) ((bytes_decides x.placed.card.id y.placed.card.id).0 e) }
 
 pub uid_alike : IsAlike same_uid
-uid_alike = record { turn = λ x y. turn x.uid y.uid; alike = λ x y z e. ap (λ n. n == z.uid) (eqb-true x.uid y.uid e) }
+uid_alike = record { turn = λ x y. turn x.placed.uid y.placed.uid; alike = λ x y z e. ap (λ n. n == z.placed.uid) (eqb-true x.placed.uid y.placed.uid e) }
   where
     turn : (a b : ℕ) → (a == b) ≡ (b == a)
     turn a b = agree (a == b) (b == a) (λ e. eq-eqb b a (sym (eqb-true a b e))) (λ e. eq-eqb a b (sym (eqb-true b a e)))
@@ -63,28 +63,28 @@ uid_alike = record { turn = λ x y. turn x.uid y.uid; alike = λ x y z e. ap (λ
 -- ---- mails are inserted one by one, by rising uids
 
 -- mails with different uids don't tie
-no_tie : (y z : Mail) → z.uid < y.uid → mail_cmp y z ≢ Equal
+no_tie : (y z : Mail) → z.placed.uid < y.placed.uid → mail_cmp y z ≢ Equal
 no_tie y z h k =
-    let by_id = ordering_then (slice_cmp nat_cmp y.card.id z.card.id) (nat_cmp y.uid z.uid) in
-    let same : y.uid ≡ z.uid = exact_unsigned y.uid z.uid (second_Equal (slice_cmp nat_cmp y.card.id z.card.id) (nat_cmp y.uid z.uid) (second_Equal (nat_cmp y.date z.date) by_id k)) in
+    let by_id = ordering_then (slice_cmp nat_cmp y.placed.card.id z.placed.card.id) (nat_cmp y.placed.uid z.placed.uid) in
+    let same : y.placed.uid ≡ z.placed.uid = exact_unsigned y.placed.uid z.placed.uid (second_Equal (slice_cmp nat_cmp y.placed.card.id z.placed.card.id) (nat_cmp y.placed.uid z.placed.uid) (second_Equal (nat_cmp y.placed.date z.placed.date) by_id k)) in
     omega (arith, same)
 
 abbrev pub AllUnder : ℕ → List Mail → Type 0
-AllUnder low zs = AllByRecursion (λ z. z.uid < low) zs
+AllUnder low zs = AllByRecursion (λ z. z.placed.uid < low) zs
 
 AllUnder-more : (low more : ℕ) (zs : List Mail) → low ≤ more → AllUnder low zs → AllUnder more zs
 AllUnder-more low more [] h a = tt
-AllUnder-more low more (z ∷ zs) h a = (let k : z.uid < low = a.0 in omega arith, AllUnder-more low more zs h a.1)
+AllUnder-more low more (z ∷ zs) h a = (let k : z.placed.uid < low = a.0 in omega arith, AllUnder-more low more zs h a.1)
 
-new_uid : (y : Mail) (zs : List Mail) → AllUnder y.uid zs → None_of (same_uid y) zs
+new_uid : (y : Mail) (zs : List Mail) → AllUnder y.placed.uid zs → None_of (same_uid y) zs
 new_uid y [] a = tt
-new_uid y (z ∷ zs) a = (let k : z.uid < y.uid = a.0 in ne_eqb y.uid z.uid (λ e. omega arith), new_uid y zs a.1)
+new_uid y (z ∷ zs) a = (let k : z.placed.uid < y.placed.uid = a.0 in ne_eqb y.placed.uid z.placed.uid (λ e. omega arith), new_uid y zs a.1)
 
-placed : (y : Mail) (zs : List Mail) → AllUnder y.uid zs → Placed mail_cmp is_below is_never_back y zs
+placed : (y : Mail) (zs : List Mail) → AllUnder y.placed.uid zs → Placed mail_cmp is_below is_never_back y zs
 placed y [] a = tt
 placed y (z ∷ zs) a = (apart mail_cmp order y z (no_tie y z a.0), placed y zs a.1)
 
--- those of items whose uids rise, inserted after some with lower uids
+-- those of entries whose uids rise, inserted after some with lower uids
 abbrev insert_all : List Mail → List Mail → List Mail
 insert_all zs ys = fold (λ sorted y. insert_by mail_cmp y sorted) zs ys
 
@@ -98,141 +98,141 @@ no_mails : (bound : ℕ) → IsLine bound []
 unfolding IsDistinct
 no_mails bound = record { rising = tt; once = tt; under = tt }
 
-line_with : (bound : ℕ) (y : Mail) (zs : List Mail) → bound ≤ y.uid → IsLine bound zs
-    → IsLine (y.uid + 1) (insert_by mail_cmp y zs)
+line_with : (bound : ℕ) (y : Mail) (zs : List Mail) → bound ≤ y.placed.uid → IsLine bound zs
+    → IsLine (y.placed.uid + 1) (insert_by mail_cmp y zs)
 line_with bound y zs h line =
-    let low : AllUnder y.uid zs = AllUnder-more bound y.uid zs h line.under in
+    let low : AllUnder y.placed.uid zs = AllUnder-more bound y.placed.uid zs h line.under in
     record {
       rising = Rising-insert_by mail_cmp is_below is_never_back y zs (placed y zs low) line.rising;
       once = IsDistinct-insert_by mail_cmp same_uid uid_alike.turn y zs (new_uid y zs low) line.once;
-      under = All-insert_by mail_cmp (λ z. z.uid < y.uid + 1) y zs (omega arith) (AllUnder-more y.uid (y.uid + 1) zs (omega arith) low);
+      under = All-insert_by mail_cmp (λ z. z.placed.uid < y.placed.uid + 1) y zs (omega arith) (AllUnder-more y.placed.uid (y.placed.uid + 1) zs (omega arith) low);
     }
 
 line_more : (low more : ℕ) (zs : List Mail) → low ≤ more → IsLine low zs → IsLine more zs
 line_more low more zs h line =
     record { rising = line.rising; once = line.once; under = AllUnder-more low more zs h line.under }
 
-line_from : (low next : ℕ) (zs : List Mail) (items : List Item) → RiseBelow low items next → IsLine low zs
-    → IsLine next (insert_all zs (filter_map mail_of items))
+line_from : (low next : ℕ) (zs : List Mail) (entries : List Entry) → RiseBelow low entries next → IsLine low zs
+    → IsLine next (insert_all zs (filter_map mail_of entries))
 line_from low next zs [] u line = line_more low next zs u line
-line_from low next zs (item ∷ items) u line =
-    elim item.mail as (λ mail. IsLine next (insert_all zs (cons_option (mail_by item mail) (filter_map mail_of items)))) [
-      | Ok card ↦ line_from (item.uid + 1) next (insert_by mail_cmp (mail_with item card) zs) items u.1 (line_with low (mail_with item card) zs u.0 line)
-      | Err fault ↦ line_from (item.uid + 1) next zs items u.1 (let first : low ≤ item.uid = u.0 in line_more low (item.uid + 1) zs (omega arith) line)
+line_from low next zs (entry ∷ entries) u line =
+    elim entry.read as (λ read. IsLine next (insert_all zs (cons_option (mail_by entry read) (filter_map mail_of entries)))) [
+      | Ok card ↦ line_from (entry.uid + 1) next (insert_by mail_cmp (mail_with entry card) zs) entries u.1 (line_with low (mail_with entry card) zs u.0 line)
+      | Err fault ↦ line_from (entry.uid + 1) next zs entries u.1 (let first : low ≤ entry.uid = u.0 in line_more low (entry.uid + 1) zs (omega arith) line)
     ]
 
-pub line_of : (m : Mailbox) → RiseBelow 1 m.items m.next_uid → IsLine m.next_uid (mails m)
-line_of m u = line_from 1 m.next_uid [] m.items u (no_mails 1)
+pub line_of : (m : Mailbox) → RiseBelow 1 m.entries m.next_uid → IsLine m.next_uid (mails m)
+line_of m u = line_from 1 m.next_uid [] m.entries u (no_mails 1)
 
--- ---- an arrival
+-- ---- an new_entry
 
 pub mails-arrive : (m : Mailbox) (card : Card) → mails (after m (Arrive card)) ≡ insert_by mail_cmp (arriving m card) (mails m)
 mails-arrive m card =
-    ap (sorted_by mail_cmp) (filter_map-append mail_of m.items (arrival m (Ok card) ∷ []))
-    ∙ fold_push (λ sorted y. insert_by mail_cmp y sorted) [] (filter_map mail_of m.items) (arriving m card)
+    ap (sorted_by mail_cmp) (filter_map-append mail_of m.entries (new_entry m (Ok card) ∷ []))
+    ∙ fold_push (λ sorted y. insert_by mail_cmp y sorted) [] (filter_map mail_of m.entries) (arriving m card)
 
 pub mails-fault : (m : Mailbox) (fault : Fault) → mails (after m (ArriveFault fault)) ≡ mails m
 mails-fault m fault =
-    ap (sorted_by mail_cmp) (filter_map-append mail_of m.items (arrival m (Err fault) ∷ []) ∙ append-nil (filter_map mail_of m.items))
+    ap (sorted_by mail_cmp) (filter_map-append mail_of m.entries (new_entry m (Err fault) ∷ []) ∙ append-nil (filter_map mail_of m.entries))
 
 -- ---- an expunge
 
 abbrev pub but_uid : ℕ → List Mail → List Mail
-but_uid uid zs = filter (λ z. not (has_mail_uid uid z)) zs
+but_uid uid zs = filter (λ z. not (is_mail uid z)) zs
 
-abbrev left : ℕ → List Item → List Item
-left uid items = filter (λ item. not (has_uid uid item)) items
+abbrev left : ℕ → List Entry → List Entry
+left uid entries = filter (λ entry. not (has_uid uid entry)) entries
 
-expunged_from : (uid low next : ℕ) (zs : List Mail) (items : List Item) → RiseBelow low items next → IsLine low zs →
-    but_uid uid (insert_all zs (filter_map mail_of items)) ≡ insert_all (but_uid uid zs) (filter_map mail_of (left uid items))
+expunged_from : (uid low next : ℕ) (zs : List Mail) (entries : List Entry) → RiseBelow low entries next → IsLine low zs →
+    but_uid uid (insert_all zs (filter_map mail_of entries)) ≡ insert_all (but_uid uid zs) (filter_map mail_of (left uid entries))
 expunged_from uid low next zs [] u line = refl
-expunged_from uid low next zs (item ∷ items) u line =
-    elim item.mail as (λ mail. but_uid uid (insert_all zs (cons_option (mail_by item mail) (filter_map mail_of items))) ≡ insert_all (but_uid uid zs) (rest mail (not (has_uid uid item)))) [
+expunged_from uid low next zs (entry ∷ entries) u line =
+    elim entry.read as (λ read. but_uid uid (insert_all zs (cons_option (mail_by entry read) (filter_map mail_of entries))) ≡ insert_all (but_uid uid zs) (rest read (not (has_uid uid entry)))) [
       | Ok card ↦
-          let y = mail_with item card in
-          expunged_from uid (item.uid + 1) next (insert_by mail_cmp y zs) items u.1 (line_with low y zs u.0 line)
-          ∙ by (not (has_uid uid item)) refl card
+          let y = mail_with entry card in
+          expunged_from uid (entry.uid + 1) next (insert_by mail_cmp y zs) entries u.1 (line_with low y zs u.0 line)
+          ∙ by (not (has_uid uid entry)) refl card
       | Err fault ↦
-          let first : low ≤ item.uid = u.0 in
-          expunged_from uid (item.uid + 1) next zs items u.1 (line_more low (item.uid + 1) zs (omega arith) line) ∙ skip fault (not (has_uid uid item))
-    ] ∙ ap (λ ys. insert_all (but_uid uid zs) ys) (whole (not (has_uid uid item)))
+          let first : low ≤ entry.uid = u.0 in
+          expunged_from uid (entry.uid + 1) next zs entries u.1 (line_more low (entry.uid + 1) zs (omega arith) line) ∙ skip fault (not (has_uid uid entry))
+    ] ∙ ap (λ ys. insert_all (but_uid uid zs) ys) (whole (not (has_uid uid entry)))
   where
     rest : Result Card Fault → Bool → List Mail
-    rest mail b =
-        cond b (cons_option (mail_by item mail) (filter_map mail_of (left uid items))) (filter_map mail_of (left uid items))
+    rest read b =
+        cond b (cons_option (mail_by entry read) (filter_map mail_of (left uid entries))) (filter_map mail_of (left uid entries))
 
-    by : (b : Bool) → not (has_uid uid item) ≡ b → (card : Card)
-        → insert_all (but_uid uid (insert_by mail_cmp (mail_with item card) zs)) (filter_map mail_of (left uid items)) ≡ insert_all (but_uid uid zs) (rest (Ok card) b)
+    by : (b : Bool) → not (has_uid uid entry) ≡ b → (card : Card)
+        → insert_all (but_uid uid (insert_by mail_cmp (mail_with entry card) zs)) (filter_map mail_of (left uid entries)) ≡ insert_all (but_uid uid zs) (rest (Ok card) b)
     by true e card =
-        ap (λ s. insert_all s (filter_map mail_of (left uid items))) (filter-insert_by-kept mail_cmp is_below.trans (λ z. not (has_mail_uid uid z)) (mail_with item card) zs e line.rising)
+        ap (λ s. insert_all s (filter_map mail_of (left uid entries))) (filter-insert_by-kept mail_cmp is_below.trans (λ z. not (is_mail uid z)) (mail_with entry card) zs e line.rising)
     by false e card =
-        ap (λ s. insert_all s (filter_map mail_of (left uid items))) (filter-insert_by-dropped mail_cmp (λ z. not (has_mail_uid uid z)) (mail_with item card) zs e)
+        ap (λ s. insert_all s (filter_map mail_of (left uid entries))) (filter-insert_by-dropped mail_cmp (λ z. not (is_mail uid z)) (mail_with entry card) zs e)
 
     skip : (fault : Fault) (b : Bool)
-        → insert_all (but_uid uid zs) (filter_map mail_of (left uid items)) ≡ insert_all (but_uid uid zs) (rest (Err fault) b)
+        → insert_all (but_uid uid zs) (filter_map mail_of (left uid entries)) ≡ insert_all (but_uid uid zs) (rest (Err fault) b)
     skip fault true = refl
     skip fault false = refl
 
-    whole : (b : Bool) → rest item.mail b ≡ filter_map mail_of (cond b (item ∷ left uid items) (left uid items))
+    whole : (b : Bool) → rest entry.read b ≡ filter_map mail_of (cond b (entry ∷ left uid entries) (left uid entries))
     whole true = refl
     whole false = refl
 
-pub mails-expunge : (m : Mailbox) (uid : ℕ) → RiseBelow 1 m.items m.next_uid
+pub mails-expunge : (m : Mailbox) (uid : ℕ) → RiseBelow 1 m.entries m.next_uid
     → mails (after m (Expunge uid)) ≡ but_uid uid (mails m)
-mails-expunge m uid u = sym (expunged_from uid 1 m.next_uid [] m.items u (no_mails 1))
+mails-expunge m uid u = sym (expunged_from uid 1 m.next_uid [] m.entries u (no_mails 1))
 
 -- ---- a seen mark
 
 insert_by-seen : (uid now : ℕ) (y : Mail) (zs : List Mail)
-    → map (seen_at uid now) (insert_by mail_cmp y zs) ≡ insert_by mail_cmp (seen_at uid now y) (map (seen_at uid now) zs)
+    → map (mark_mail uid now) (insert_by mail_cmp y zs) ≡ insert_by mail_cmp (mark_mail uid now y) (map (mark_mail uid now) zs)
 insert_by-seen uid now y [] = refl
 insert_by-seen uid now y (z ∷ zs) =
-    turn (earlier y z) _ _ (insert_by-seen uid now y zs) ∙ ap (λ o. if is_lt o then seen_at uid now y ∷ seen_at uid now z ∷ map (seen_at uid now) zs else seen_at uid now z ∷ insert_by mail_cmp (seen_at uid now y) (map (seen_at uid now) zs)) (λ i. spot_cmp (spots y i) (spots z i))
+    turn (earlier y z) _ _ (insert_by-seen uid now y zs) ∙ ap (λ o. if is_lt o then mark_mail uid now y ∷ mark_mail uid now z ∷ map (mark_mail uid now) zs else mark_mail uid now z ∷ insert_by mail_cmp (mark_mail uid now y) (map (mark_mail uid now) zs)) (λ i. spot_cmp (spots y i) (spots z i))
   where
-    spots : (t : Mail) → spot t ≡ spot (seen_at uid now t)
+    spots : (t : Mail) → spot t.placed ≡ spot (mark_mail uid now t).placed
     spots t =
-        elim (has_mail_uid uid t) as (λ b. spot t ≡ spot (if b then record t { seen = option_or t.seen (Some now) } else t)) [ true ↦ refl | false ↦ refl ]
+        elim (is_mail uid t) as (λ b. spot t.placed ≡ spot (if b then record t { seen = option_or t.seen (Some now) } else t).placed) [ true ↦ refl | false ↦ refl ]
 
-    turn : (b : Bool) (us vs : List Mail) → map (seen_at uid now) us ≡ vs
-        → map (seen_at uid now) (if b then y ∷ z ∷ zs else z ∷ us) ≡ (if b then seen_at uid now y ∷ seen_at uid now z ∷ map (seen_at uid now) zs else seen_at uid now z ∷ vs)
+    turn : (b : Bool) (us vs : List Mail) → map (mark_mail uid now) us ≡ vs
+        → map (mark_mail uid now) (if b then y ∷ z ∷ zs else z ∷ us) ≡ (if b then mark_mail uid now y ∷ mark_mail uid now z ∷ map (mark_mail uid now) zs else mark_mail uid now z ∷ vs)
     turn true us vs h = refl
-    turn false us vs h = ap (λ ws. seen_at uid now z ∷ ws) h
+    turn false us vs h = ap (λ ws. mark_mail uid now z ∷ ws) h
 
-seen_from : (uid now : ℕ) (zs : List Mail) (items : List Item)
-    → map (seen_at uid now) (insert_all zs (filter_map mail_of items)) ≡ insert_all (map (seen_at uid now) zs) (filter_map mail_of (map (marked uid now) items))
+seen_from : (uid now : ℕ) (zs : List Mail) (entries : List Entry)
+    → map (mark_mail uid now) (insert_all zs (filter_map mail_of entries)) ≡ insert_all (map (mark_mail uid now) zs) (filter_map mail_of (map (mark_entry uid now) entries))
 seen_from uid now zs [] = refl
-seen_from uid now zs (item ∷ items) =
-    elim item.mail as (λ mail. map (seen_at uid now) (insert_all zs (cons_option (mail_by item mail) (filter_map mail_of items))) ≡ insert_all (map (seen_at uid now) zs) (cons_option (seen_by mail) (filter_map mail_of (map (marked uid now) items)))) [
+seen_from uid now zs (entry ∷ entries) =
+    elim entry.read as (λ read. map (mark_mail uid now) (insert_all zs (cons_option (mail_by entry read) (filter_map mail_of entries))) ≡ insert_all (map (mark_mail uid now) zs) (cons_option (marked_read read) (filter_map mail_of (map (mark_entry uid now) entries)))) [
       | Ok card ↦
-          seen_from uid now (insert_by mail_cmp (mail_with item card) zs) items
-          ∙ ap (λ ws. insert_all ws (filter_map mail_of (map (marked uid now) items))) (insert_by-seen uid now (mail_with item card) zs)
-      | Err fault ↦ seen_from uid now zs items
-    ] ∙ ap (λ o. insert_all (map (seen_at uid now) zs) (cons_option o (filter_map mail_of (map (marked uid now) items)))) (same (has_uid uid item))
+          seen_from uid now (insert_by mail_cmp (mail_with entry card) zs) entries
+          ∙ ap (λ ws. insert_all ws (filter_map mail_of (map (mark_entry uid now) entries))) (insert_by-seen uid now (mail_with entry card) zs)
+      | Err fault ↦ seen_from uid now zs entries
+    ] ∙ ap (λ o. insert_all (map (mark_mail uid now) zs) (cons_option o (filter_map mail_of (map (mark_entry uid now) entries)))) (same (has_uid uid entry))
   where
     mark : Bool → Mail → Mail
     mark b t = if b then record t { seen = option_or t.seen (Some now) } else t
 
     by : Bool → Result Card Fault → Option Mail
-    by b (Ok card) = Some (mark b (mail_with item card))
+    by b (Ok card) = Some (mark b (mail_with entry card))
     by b (Err fault) = None
 
-    seen_by : Result Card Fault → Option Mail
-    seen_by mail = by (has_uid uid item) mail
+    marked_read : Result Card Fault → Option Mail
+    marked_read read = by (has_uid uid entry) read
 
-    made : (b : Bool) → Item → Item
+    made : (b : Bool) → Entry → Entry
     made b i = if b then record i { seen = option_or i.seen (Some now) } else i
 
-    same : (b : Bool) → by b item.mail ≡ mail_of (made b item)
-    same true = at item.mail
+    same : (b : Bool) → by b entry.read ≡ mail_of (made b entry)
+    same true = at entry.read
       where
-        at : (mail : Result Card Fault) → by true mail ≡ mail_by (made true item) mail
+        at : (read : Result Card Fault) → by true read ≡ mail_by (made true entry) read
         at (Ok card) = refl
         at (Err fault) = refl
-    same false = at item.mail
+    same false = at entry.read
       where
-        at : (mail : Result Card Fault) → by false mail ≡ mail_by item mail
+        at : (read : Result Card Fault) → by false read ≡ mail_by entry read
         at (Ok card) = refl
         at (Err fault) = refl
 
-pub mails-seen : (m : Mailbox) (uid : ℕ) → mails (after m (Seen uid)) ≡ map (seen_at uid m.now) (mails m)
-mails-seen m uid = sym (seen_from uid m.now [] m.items)
+pub mails-seen : (m : Mailbox) (uid : ℕ) → mails (after m (Seen uid)) ≡ map (mark_mail uid m.now) (mails m)
+mails-seen m uid = sym (seen_from uid m.now [] m.entries)

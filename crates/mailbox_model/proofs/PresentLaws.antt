@@ -41,18 +41,18 @@ module _ {X : Type 0} (cmp : X → X → Ordering) where
 
 -- ---- mail order
 
-pub present_sorted : (m : Mailbox) → RiseBelow 1 m.items m.next_uid → IsStrictlySortedBy mail_cmp (present m)
+pub present_sorted : (m : Mailbox) → RiseBelow 1 m.entries m.next_uid → IsStrictlySortedBy mail_cmp (present m)
 present_sorted m u = sorted_from mail_cmp order (present m) (Rising-firsts same_id mail_cmp (mails m) (line_of m u).rising)
 
-pub mails_sorted : (m : Mailbox) → RiseBelow 1 m.items m.next_uid → IsStrictlySortedBy mail_cmp (mails m)
+pub mails_sorted : (m : Mailbox) → RiseBelow 1 m.entries m.next_uid → IsStrictlySortedBy mail_cmp (mails m)
 mails_sorted m u = sorted_from mail_cmp order (mails m) (line_of m u).rising
 
-pub mails_all : (m : Mailbox) → IsPermutation (filter_map mail_of m.items) (mails m)
-mails_all m = permuted mail_cmp (filter_map mail_of m.items)
+pub mails_all : (m : Mailbox) → IsPermutation (filter_map mail_of m.entries) (mails m)
+mails_all m = permuted mail_cmp (filter_map mail_of m.entries)
 
 pub present_once : (m : Mailbox) → IsDistinct same_id (present m)
 present_once m = IsDistinct-firsts same_id (mails m)
 
 pub present_first : (m : Mailbox) (id : Bytes) → find (has_id id) (present m) ≡ find (has_id id) (mails m)
 present_first m id =
-    find-firsts same_id (has_id id) (λ x y e. ap (bytes_eq id) ((bytes_decides x.card.id y.card.id).0 e)) (mails m)
+    find-firsts same_id (has_id id) (λ x y e. ap (bytes_eq id) ((bytes_decides x.placed.card.id y.placed.card.id).0 e)) (mails m)

@@ -14,12 +14,12 @@ use Rattle.mailbox_model.specs.declared.change.Change.TheVariants.{Arrive, Arriv
 use Rattle.mailbox_model.specs.declared.turn.Turn.TheVariants.{Nothing, Replace, Marked, Moved}
 use Rattle.lists.specs.Sorted.{insert_by}
 use Rattle.mailbox_model.specs.Mailbox.{Mailbox, after, RiseBelow}
-use Rattle.mailbox_model.specs.Present.{Mail, spot, mail_cmp, mails, same_id, present}
-use Rattle.mailbox_model.specs.Turns.{arriving, has_mail_uid, is_unseen, seen_at, turn, turn_in, turn_to, turn_out, Turns, MovesClock, IsTurn}
+use Rattle.mailbox_model.specs.Present.{Mail, spot, mail_cmp, mails, same_id, present, same_uid}
+use Rattle.mailbox_model.specs.Turns.{arriving, is_mail, is_unseen, mark_mail, turn, turn_in, turn_out, turn_without, Turns, MovesClock, IsTurn}
 use Rattle.lists.proofs.DistinctLaws.{IsDistinct-firsts}
 use Rattle.lists.proofs.Rising.{Rising, Rising-filter, Rising-firsts, firsts-insert_by, is_preceded, unlike}
 use Rattle.lists.proofs.Inserts.{None_of, none_found, none_from_found, none_filtered, filter_none, All-filter, All-firsts, found_all, found_passes, find-firsts, find-insert_by, OneAtMost, one_at_most, put_back, preceded_none, preceded_first}
-use Rattle.mailbox_model.proofs.MailLaws.{is_below, is_never_back, is_alike, same_uid, uid_alike, line_of, mails-arrive, mails-fault, mails-expunge, mails-seen}
+use Rattle.mailbox_model.proofs.MailLaws.{is_below, is_never_back, is_alike, uid_alike, line_of, mails-arrive, mails-fault, mails-expunge, mails-seen}
 
 -- what is present of all and y: y among the others, unless one with its id precedes it
 abbrev displaced : Mail → List Mail → List Mail → List Mail
@@ -39,18 +39,18 @@ taken y u zs r e =
     put_back mail_cmp is_below is_never_back (same_id y) u (firsts same_id zs) (Rising-firsts same_id mail_cmp zs r)
     (one_at_most mail_cmp same_id is_alike (same_id y) (λ x z h. sym (is_alike.alike y x z h)) (firsts same_id zs) (IsDistinct-firsts same_id zs)) e
 
-same_bytes : (y u : Mail) → same_id y u ≡ true → y.card.id ≡ u.card.id
-same_bytes y u e = (bytes_decides y.card.id u.card.id).0 e
+same_bytes : (y u : Mail) → same_id y u ≡ true → y.placed.card.id ≡ u.placed.card.id
+same_bytes y u e = (bytes_decides y.placed.card.id u.placed.card.id).0 e
 
--- ---- an arrival
+-- ---- an new_entry
 
-arrived : (m : Mailbox) (card : Card) → RiseBelow 1 m.items m.next_uid
+arrived : (m : Mailbox) (card : Card) → RiseBelow 1 m.entries m.next_uid
     → present (after m (Arrive card)) ≡ displaced (arriving m card) (mails m) (present m)
 arrived m card u =
     ap (firsts same_id) (mails-arrive m card)
     ∙ firsts-insert_by same_id mail_cmp is_alike is_below (arriving m card) (mails m) (line_of m u).rising
 
-pub arrive_turn : (m : Mailbox) (card : Card) → RiseBelow 1 m.items m.next_uid → (o : Option Mail)
+pub arrive_turn : (m : Mailbox) (card : Card) → RiseBelow 1 m.entries m.next_uid → (o : Option Mail)
     → find (same_id (arriving m card)) (present m) ≡ o →
     Turns (present m) (present (after m (Arrive card))) m.now (turn_in (arriving m card) o)
 arrive_turn m card u None e =
@@ -58,14 +58,14 @@ arrive_turn m card u None e =
     let first : is_preceded same_id mail_cmp y (mails m) ≡ false = preceded_none mail_cmp is_below is_never_back same_id y (mails m) (none_from_found (same_id y) (mails m) (sym (found_both y (mails m)) ∙ e)) in
     (y, refl, arrived m card u ∙ rw first (ap (insert_by mail_cmp y) (none_filtered (same_id y) (present m) (none_from_found (same_id y) (present m) e))))
 arrive_turn m card u (Some x) e =
-    elim (is_lt (mail_cmp y x)) as (λ b. is_lt (mail_cmp y x) ≡ b → Turns (present m) (present (after m (Arrive card))) m.now (if b then Replace (spot x) (spot y) else Nothing)) [
+    elim (is_lt (mail_cmp y x)) as (λ b. is_lt (mail_cmp y x) ≡ b → Turns (present m) (present (after m (Arrive card))) m.now (if b then Replace (spot x.placed) (spot y.placed) else Nothing)) [
       | true ↦ λ h. (
         x,
         y,
         refl,
         refl,
         record {
-          apart = λ k. let low : x.uid < m.next_uid = found_all (λ z. z.uid < m.next_uid) (same_id y) (present m) x (All-firsts (λ z. z.uid < m.next_uid) same_id (mails m) (line_of m u).under) e in omega (arith, k);
+          apart = λ k. let low : x.placed.uid < m.next_uid = found_all (λ z. z.placed.uid < m.next_uid) (same_id y) (present m) x (All-firsts (λ z. z.placed.uid < m.next_uid) same_id (mails m) (line_of m u).under) e in omega (arith, k);
           id = sym (same_bytes y x (found_passes (same_id y) (present m) x e));
           others = unlike same_id mail_cmp y (present m);
           first = taken y x (mails m) (line_of m u).rising e;
@@ -84,64 +84,64 @@ arrive_turn m card u (Some x) e =
 
 -- ---- an expunge
 
-module _ (m : Mailbox) (uid : ℕ) (u : RiseBelow 1 m.items m.next_uid) where
+module _ (m : Mailbox) (uid : ℕ) (u : RiseBelow 1 m.entries m.next_uid) where
   abbrev n : Mailbox
   n = after m (Expunge uid)
 
-  gone : None_of (has_mail_uid uid) (mails n)
-  gone = subst (None_of (has_mail_uid uid)) (sym (mails-expunge m uid u)) (filter_none (has_mail_uid uid) (mails m))
+  gone : None_of (is_mail uid) (mails n)
+  gone = subst (None_of (is_mail uid)) (sym (mails-expunge m uid u)) (filter_none (is_mail uid) (mails m))
 
-  gone_present : None_of (has_mail_uid uid) (present n)
-  gone_present = All-firsts (λ z. has_mail_uid uid z ≡ false) same_id (mails n) gone
+  gone_present : None_of (is_mail uid) (present n)
+  gone_present = All-firsts (λ z. is_mail uid z ≡ false) same_id (mails n) gone
 
   rising_left : Rising mail_cmp (mails n)
   rising_left =
-      subst (Rising mail_cmp) (sym (mails-expunge m uid u)) (Rising-filter mail_cmp (λ z. not (has_mail_uid uid z)) (mails m) (line_of m u).rising)
+      subst (Rising mail_cmp) (sym (mails-expunge m uid u)) (Rising-filter mail_cmp (λ z. not (is_mail uid z)) (mails m) (line_of m u).rising)
 
   -- where none had the uid
-  none_left : None_of (has_mail_uid uid) (mails m)
-      → Turns (present m) (present n) m.now (turn_out (find (has_mail_uid uid) (present m)) (present n))
+  none_left : None_of (is_mail uid) (mails m)
+      → Turns (present m) (present n) m.now (turn_without (find (is_mail uid) (present m)) (present n))
   none_left none =
-      subst (λ o. Turns (present m) (present n) m.now (turn_out o (present n)))
-      (sym (none_found (has_mail_uid uid) (present m) (All-firsts (λ z. has_mail_uid uid z ≡ false) same_id (mails m) none)))
-      (ap (firsts same_id) (mails-expunge m uid u ∙ none_filtered (has_mail_uid uid) (mails m) none))
+      subst (λ o. Turns (present m) (present n) m.now (turn_without o (present n)))
+      (sym (none_found (is_mail uid) (present m) (All-firsts (λ z. is_mail uid z ≡ false) same_id (mails m) none)))
+      (ap (firsts same_id) (mails-expunge m uid u ∙ none_filtered (is_mail uid) (mails m) none))
 
-  module _ (y : Mail) (e : find (has_mail_uid uid) (mails m) ≡ Some y) where
-    its_uid : has_mail_uid uid y ≡ true
-    its_uid = found_passes (has_mail_uid uid) (mails m) y e
+  module _ (y : Mail) (e : find (is_mail uid) (mails m) ≡ Some y) where
+    its_uid : is_mail uid y ≡ true
+    its_uid = found_passes (is_mail uid) (mails m) y e
 
-    uid_at_most_once : OneAtMost mail_cmp (has_mail_uid uid) (mails m)
+    uid_at_most_once : OneAtMost mail_cmp (is_mail uid) (mails m)
     uid_at_most_once =
-        one_at_most mail_cmp same_uid uid_alike (has_mail_uid uid) (λ x z h. same x z h) (mails m) (line_of m u).once
+        one_at_most mail_cmp same_uid uid_alike (is_mail uid) (λ x z h. same x z h) (mails m) (line_of m u).once
       where
-        same : (x z : Mail) → has_mail_uid uid x ≡ true → same_uid x z ≡ has_mail_uid uid z
-        same x z h = ap (λ k. k == z.uid) (eqb-true x.uid uid h) ∙ uid_alike.turn (record z { uid = uid }) z
+        same : (x z : Mail) → is_mail uid x ≡ true → same_uid x z ≡ is_mail uid z
+        same x z h = ap (λ k. k == z.placed.uid) (eqb-true x.placed.uid uid h) ∙ uid_alike.turn (record z { placed = record z.placed { uid = uid } }) z
 
     before : present m ≡ displaced y (mails n) (present n)
     before =
-        ap (firsts same_id) (put_back mail_cmp is_below is_never_back (has_mail_uid uid) y (mails m) (line_of m u).rising uid_at_most_once e ∙ ap (insert_by mail_cmp y) (sym (mails-expunge m uid u)))
+        ap (firsts same_id) (put_back mail_cmp is_below is_never_back (is_mail uid) y (mails m) (line_of m u).rising uid_at_most_once e ∙ ap (insert_by mail_cmp y) (sym (mails-expunge m uid u)))
         ∙ firsts-insert_by same_id mail_cmp is_alike is_below y (mails n) rising_left
 
     -- it came after one with its id
     hidden : is_preceded same_id mail_cmp y (mails n) ≡ true
-        → Turns (present m) (present n) m.now (turn_out (find (has_mail_uid uid) (present m)) (present n))
+        → Turns (present m) (present n) m.now (turn_without (find (is_mail uid) (present m)) (present n))
     hidden b =
         let same : present m ≡ present n = before ∙ rw b refl in
-        subst (λ o. Turns (present m) (present n) m.now (turn_out o (present n)))
-        (sym (ap (find (has_mail_uid uid)) same ∙ none_found (has_mail_uid uid) (present n) gone_present)) (sym same)
+        subst (λ o. Turns (present m) (present n) m.now (turn_without o (present n)))
+        (sym (ap (find (is_mail uid)) same ∙ none_found (is_mail uid) (present n) gone_present)) (sym same)
 
     -- it was present, and the next one with its id is now, if there is one
     was_present : is_preceded same_id mail_cmp y (mails n) ≡ false
-        → Turns (present m) (present n) m.now (turn_out (find (has_mail_uid uid) (present m)) (present n))
+        → Turns (present m) (present n) m.now (turn_without (find (is_mail uid) (present m)) (present n))
     was_present b =
         let was : present m ≡ insert_by mail_cmp y (unlike same_id mail_cmp y (present n)) = before ∙ rw b refl in
-        let here : find (has_mail_uid uid) (present m) ≡ Some y =
-        ap (find (has_mail_uid uid)) was
-        ∙ find-insert_by mail_cmp (has_mail_uid uid) y (unlike same_id mail_cmp y (present n)) its_uid (All-filter (λ z. has_mail_uid uid z ≡ false) (λ z. not (same_id y z)) (present n) gone_present) in
-        subst (λ o. Turns (present m) (present n) m.now (turn_out o (present n))) (sym here) (next was (find (same_id y) (present n)) refl)
+        let here : find (is_mail uid) (present m) ≡ Some y =
+        ap (find (is_mail uid)) was
+        ∙ find-insert_by mail_cmp (is_mail uid) y (unlike same_id mail_cmp y (present n)) its_uid (All-filter (λ z. is_mail uid z ≡ false) (λ z. not (same_id y z)) (present n) gone_present) in
+        subst (λ o. Turns (present m) (present n) m.now (turn_without o (present n))) (sym here) (next was (find (same_id y) (present n)) refl)
       where
         next : present m ≡ insert_by mail_cmp y (unlike same_id mail_cmp y (present n)) → (o : Option Mail)
-            → find (same_id y) (present n) ≡ o → Turns (present m) (present n) m.now (turn_to y o)
+            → find (same_id y) (present n) ≡ o → Turns (present m) (present n) m.now (turn_out y o)
         next was None k =
             (y, refl, was ∙ ap (insert_by mail_cmp y) (none_filtered (same_id y) (present n) (none_from_found (same_id y) (present n) k)))
         next was (Some z) k = (
@@ -150,7 +150,7 @@ module _ (m : Mailbox) (uid : ℕ) (u : RiseBelow 1 m.items m.next_uid) where
           refl,
           refl,
           record {
-            apart = λ s. both_ways (has_mail_uid uid z) (found_all (λ z. has_mail_uid uid z ≡ false) (same_id y) (present n) z gone_present k) (ap (λ i. i == uid) (sym s) ∙ its_uid);
+            apart = λ s. both_ways (is_mail uid z) (found_all (λ z. is_mail uid z ≡ false) (same_id y) (present n) z gone_present k) (ap (λ i. i == uid) (sym s) ∙ its_uid);
             id = same_bytes y z (found_passes (same_id y) (present n) z k);
             others = unlike same_id mail_cmp y (present n);
             first = was;
@@ -159,11 +159,11 @@ module _ (m : Mailbox) (uid : ℕ) (u : RiseBelow 1 m.items m.next_uid) where
         )
 
   pub expunge_turn : Turns (present m) (present n) m.now (turn m (Expunge uid))
-  expunge_turn = by (find (has_mail_uid uid) (mails m)) refl
+  expunge_turn = by (find (is_mail uid) (mails m)) refl
     where
-      by : (o : Option Mail) → find (has_mail_uid uid) (mails m) ≡ o
+      by : (o : Option Mail) → find (is_mail uid) (mails m) ≡ o
           → Turns (present m) (present n) m.now (turn m (Expunge uid))
-      by None e = none_left (none_from_found (has_mail_uid uid) (mails m) e)
+      by None e = none_left (none_from_found (is_mail uid) (mails m) e)
       by (Some y) e =
           elim (is_preceded same_id mail_cmp y (mails n)) as (λ b. is_preceded same_id mail_cmp y (mails n) ≡ b → Turns (present m) (present n) m.now (turn m (Expunge uid))) [
             | true ↦ λ b. hidden y e b
@@ -172,11 +172,11 @@ module _ (m : Mailbox) (uid : ℕ) (u : RiseBelow 1 m.items m.next_uid) where
 
 -- ---- a seen mark
 
-same_seen : (uid now : ℕ) (a b : Mail) → same_id (seen_at uid now a) (seen_at uid now b) ≡ same_id a b
+same_seen : (uid now : ℕ) (a b : Mail) → same_id (mark_mail uid now a) (mark_mail uid now b) ≡ same_id a b
 same_seen uid now a b =
-    elim (has_mail_uid uid a) as (λ c. same_id (if c then record a { seen = option_or a.seen (Some now) } else a) (seen_at uid now b) ≡ same_id a b) [
-      | true ↦ elim (has_mail_uid uid b) as (λ c. same_id a (if c then record b { seen = option_or b.seen (Some now) } else b) ≡ same_id a b) [ true ↦ refl | false ↦ refl ]
-      | false ↦ elim (has_mail_uid uid b) as (λ c. same_id a (if c then record b { seen = option_or b.seen (Some now) } else b) ≡ same_id a b) [ true ↦ refl | false ↦ refl ]
+    elim (is_mail uid a) as (λ c. same_id (if c then record a { seen = option_or a.seen (Some now) } else a) (mark_mail uid now b) ≡ same_id a b) [
+      | true ↦ elim (is_mail uid b) as (λ c. same_id a (if c then record b { seen = option_or b.seen (Some now) } else b) ≡ same_id a b) [ true ↦ refl | false ↦ refl ]
+      | false ↦ elim (is_mail uid b) as (λ c. same_id a (if c then record b { seen = option_or b.seen (Some now) } else b) ≡ same_id a b) [ true ↦ refl | false ↦ refl ]
     ]
 
 filter-map : {X : Type 0} (f : X → X) (p q : X → Bool) → ((x : X) → p (f x) ≡ q x) → (xs : List X)
@@ -191,15 +191,15 @@ firsts-map same f h (x ∷ xs) =
     ap (λ ys. f x ∷ filter (λ y. not (same (f x) y)) ys) (firsts-map same f h xs)
     ∙ ap (λ ys. f x ∷ ys) (filter-map f (λ y. not (same (f x) y)) (λ y. not (same x y)) (λ y. ap not (h x y)) (firsts same xs))
 
-present-seen : (m : Mailbox) (uid : ℕ) → present (after m (Seen uid)) ≡ map (seen_at uid m.now) (present m)
+present-seen : (m : Mailbox) (uid : ℕ) → present (after m (Seen uid)) ≡ map (mark_mail uid m.now) (present m)
 present-seen m uid =
     ap (firsts same_id) (mails-seen m uid)
-    ∙ firsts-map same_id (seen_at uid m.now) (same_seen uid m.now) (mails m)
+    ∙ firsts-map same_id (mark_mail uid m.now) (same_seen uid m.now) (mails m)
 
 -- one that is not unseen under the uid stays as it is
-stays : (uid now : ℕ) (t : Mail) → is_unseen uid t ≡ false → seen_at uid now t ≡ t
+stays : (uid now : ℕ) (t : Mail) → is_unseen uid t ≡ false → mark_mail uid now t ≡ t
 stays uid now t h =
-    elim (has_mail_uid uid t) as (λ b. (b && not (is_some t.seen)) ≡ false → (if b then record t { seen = option_or t.seen (Some now) } else t) ≡ t) [
+    elim (is_mail uid t) as (λ b. (b && not (is_some t.seen)) ≡ false → (if b then record t { seen = option_or t.seen (Some now) } else t) ≡ t) [
       | true ↦ λ k. by t.seen refl k
       | false ↦ λ k. refl
     ] h
@@ -208,7 +208,7 @@ stays uid now t h =
     by (Some s) e k = λ i. record t { seen = (ap (λ o. option_or o (Some now)) e ∙ sym e) i }
     by None e k = absurd (both_ways (not (is_some t.seen)) k (ap (λ o. not (is_some o)) e))
 
-all_stay : (uid now : ℕ) (ts : List Mail) → None_of (is_unseen uid) ts → map (seen_at uid now) ts ≡ ts
+all_stay : (uid now : ℕ) (ts : List Mail) → None_of (is_unseen uid) ts → map (mark_mail uid now) ts ≡ ts
 all_stay uid now [] n = refl
 all_stay uid now (t ∷ ts) n = λ i. stays uid now t n.0 i ∷ all_stay uid now ts n.1 i
 
@@ -219,8 +219,8 @@ seen_turn m uid = by (find (is_unseen uid) (present m)) refl
         → Turns (present m) (present (after m (Seen uid))) m.now (if is_some o then Marked uid else Nothing)
     by None e = present-seen m uid ∙ all_stay uid m.now (present m) (none_from_found (is_unseen uid) (present m) e)
     by (Some t) e =
-        let passes = and_parts (has_mail_uid uid t) (not (is_some t.seen)) (found_passes (is_unseen uid) (present m) t e) in
-        (t, found_all (Contains (present m)) (is_unseen uid) (present m) t (recursion_from_All (Contains (present m)) (present m) (All-contains_itself (present m))) e, eqb-true t.uid uid passes.0, unseen t.seen refl passes.1, present-seen m uid)
+        let passes = and_parts (is_mail uid t) (not (is_some t.seen)) (found_passes (is_unseen uid) (present m) t e) in
+        (t, found_all (Contains (present m)) (is_unseen uid) (present m) t (recursion_from_All (Contains (present m)) (present m) (All-contains_itself (present m))) e, eqb-true t.placed.uid uid passes.0, unseen t.seen refl passes.1, present-seen m uid)
       where
         unseen : (o : Option ℕ) → t.seen ≡ o → not (is_some t.seen) ≡ true → t.seen ≡ None
         unseen None h k = h
@@ -228,7 +228,7 @@ seen_turn m uid = by (find (is_unseen uid) (present m)) refl
 
 -- ---- every change
 
-pub present_turn : (m : Mailbox) (change : Change) → RiseBelow 1 m.items m.next_uid
+pub present_turn : (m : Mailbox) (change : Change) → RiseBelow 1 m.entries m.next_uid
     → Turns (present m) (present (after m change)) m.now (turn m change)
 present_turn m (Arrive card) u = arrive_turn m card u (find (same_id (arriving m card)) (present m)) refl
 present_turn m (ArriveFault fault) u = ap (firsts same_id) (mails-fault m fault)
@@ -243,15 +243,15 @@ clock_turn m (Arrive card) = by (find (same_id (arriving m card)) (present m))
     by : (o : Option Mail) → MovesClock m.now m.now (turn_in (arriving m card) o)
     by None = refl
     by (Some x) =
-        elim (is_lt (mail_cmp (arriving m card) x)) as (λ b. MovesClock m.now m.now (if b then Replace (spot x) (spot (arriving m card)) else Nothing)) [ true ↦ refl | false ↦ refl ]
+        elim (is_lt (mail_cmp (arriving m card) x)) as (λ b. MovesClock m.now m.now (if b then Replace (spot x.placed) (spot (arriving m card).placed) else Nothing)) [ true ↦ refl | false ↦ refl ]
 clock_turn m (ArriveFault fault) = refl
-clock_turn m (Expunge uid) = by (find (has_mail_uid uid) (present m))
+clock_turn m (Expunge uid) = by (find (is_mail uid) (present m))
   where
-    to : (t : Mail) (o : Option Mail) → MovesClock m.now m.now (turn_to t o)
+    to : (t : Mail) (o : Option Mail) → MovesClock m.now m.now (turn_out t o)
     to t None = refl
     to t (Some u) = refl
 
-    by : (o : Option Mail) → MovesClock m.now m.now (turn_out o (present (after m (Expunge uid))))
+    by : (o : Option Mail) → MovesClock m.now m.now (turn_without o (present (after m (Expunge uid))))
     by None = refl
     by (Some t) = to t (find (same_id t) (present (after m (Expunge uid))))
 clock_turn m (Seen uid) =
@@ -262,5 +262,5 @@ clock_turn m (At moment) =
       | false ↦ λ e. omega (arith, ltb-false m.now moment e)
     ] refl
 
-pub turn_law : (m : Mailbox) (change : Change) → RiseBelow 1 m.items m.next_uid → IsTurn m (after m change) (turn m change)
+pub turn_law : (m : Mailbox) (change : Change) → RiseBelow 1 m.entries m.next_uid → IsTurn m (after m change) (turn m change)
 turn_law m change u = record { present = present_turn m change u; clock = clock_turn m change }

@@ -12,6 +12,7 @@ pub mod Pages
 pub mod Bodies
 pub mod Frames
 pub mod ChatList
+pub mod States
 pub mod Times
 pub mod Printed
 pub mod Answers

@@ -1,7 +1,9 @@
--- The mailbox, how a change changes it, and the rules that it keeps.
-use Rattle.std.specs.Prelude.{◌≡◌, ℕ, ◌+◌, ◌≤◌, max, Bool, false, not, ◌||◌, ◌==◌, nat_le, nat_lt, if◌then◌else◌, Option, Some, None, IfSome, Result, Ok, Err, IfOk, IsTrue, List, [], ◌∷◌, ◌++◌, length, map, filter, sum_by}
+-- The mailbox, how a change changes it, and the rules that it keeps. An item is an entry without its card.
+use Rattle.std.specs.Prelude.{◌≡◌, ℕ, ◌+◌, ◌≤◌, max, Bool, false, not, ◌||◌, ◌==◌, nat_le, nat_lt, if◌then◌else◌, Option, Some, None, IfSome, Result, Ok, Err, IfOk, IsTrue, List, [], ◌∷◌, ◌++◌, length, map, filter, find, option_map, sum_by}
 use Rattle.std.specs.List.{AllByRecursion}
 use Rattle.std.specs.Option.{option_or}
+use Rattle.std.specs.Result.{result_ok}
+use Rattle.kit.specs.Options.{◌>>=◌}
 use Rattle.kit.specs.Moments.{last_moment}
 use Rattle.card_type.specs.declared.card.Card.{Card}
 use Rattle.card_type.specs.Records.{weight}
@@ -11,54 +13,80 @@ use Rattle.mailbox_model.specs.declared.change.Change.{Change}
 use Rattle.mailbox_model.specs.declared.change.Change.TheVariants.{Arrive, ArriveFault, Expunge, Seen, At}
 use Rattle.mailbox_model.specs.declared.item.Held.{Held}
 use Rattle.mailbox_model.specs.declared.item.Held.TheVariants as is_held
-use Rattle.mailbox_model.specs.declared.item.Item.{Item as Outline}
+use Rattle.mailbox_model.specs.declared.item.Item.{Item}
 use Rattle.mailbox_model.specs.Lists.{Bytes}
 
 -- one mail: when it arrived and when it was seen, if it was; its card, or why it has none
-pub record Item : Type 0 where
+pub record Entry : Type 0 where
   pub uid : ℕ
   pub arrival : ℕ
   pub seen : Option ℕ
-  pub mail : Result Card Fault
+  pub read : Result Card Fault
 
--- what an item holds, without its card
+-- what an item holds of a mail that was read so
 abbrev pub held : Result Card Fault → Held
 held (Ok card) = is_held.Card
 held (Err fault) = is_held.Fault fault
 
-abbrev pub outline : Item → Outline
-outline item = record { uid = item.uid; arrival = item.arrival; seen = item.seen; held = held item.mail }
+-- an entry without its card
+abbrev pub item_of : Entry → Item
+item_of entry = record { uid = entry.uid; arrival = entry.arrival; seen = entry.seen; held = held entry.read }
 
--- the own address, the moment, the next uid and the items
+-- what was read of a mail, where this is held of it and this is its card
+abbrev pub read_of : Held → Option Card → Option (Result Card Fault)
+read_of is_held.Card card = option_map Ok card
+read_of (is_held.Fault fault) card = Some (Err fault)
+
+-- an item with its card is an entry again; none where the card is missing
+abbrev pub entry_of : Item → Option Card → Option Entry
+entry_of item card =
+    option_map (λ read. record { uid = item.uid; arrival = item.arrival; seen = item.seen; read = read }) (read_of item.held card)
+
+-- the own address, the moment, the next uid and the entries
 pub record Mailbox : Type 0 where
   pub me : Bytes
   pub now : ℕ
   pub next_uid : ℕ
-  pub items : List Item
+  pub entries : List Entry
 
 abbrev pub empty_mailbox : Bytes → Mailbox
-empty_mailbox me = record { me = me; now = 0; next_uid = 1; items = [] }
+empty_mailbox me = record { me = me; now = 0; next_uid = 1; entries = [] }
+
+-- ---- what has a uid
+
+abbrev pub has_uid : ℕ → Entry → Bool
+has_uid uid entry = entry.uid == uid
+
+abbrev pub entry_at : Mailbox → ℕ → Option Entry
+entry_at m uid = find (has_uid uid) m.entries
+
+abbrev pub item_at : Mailbox → ℕ → Option Item
+item_at m uid = option_map item_of (entry_at m uid)
+
+abbrev pub card_at : Mailbox → ℕ → Option Card
+card_at m uid = entry_at m uid >>= λ entry. result_ok entry.read
 
 -- ---- changes
 
-abbrev pub arrival : Mailbox → Result Card Fault → Item
-arrival m mail = record { uid = m.next_uid; arrival = m.now; seen = None; mail = mail }
+-- what arrives now
+abbrev pub new_entry : Mailbox → Result Card Fault → Entry
+new_entry m read = record { uid = m.next_uid; arrival = m.now; seen = None; read = read }
 
 abbrev pub with_arrival : Mailbox → Result Card Fault → Mailbox
-with_arrival m mail = record m { next_uid = m.next_uid + 1; items = m.items ++ arrival m mail ∷ [] }
-
-abbrev pub has_uid : ℕ → Item → Bool
-has_uid uid item = item.uid == uid
+with_arrival m read = record m { next_uid = m.next_uid + 1; entries = m.entries ++ new_entry m read ∷ [] }
 
 -- the first mark counts
-abbrev pub marked : ℕ → ℕ → Item → Item
-marked uid now item = if has_uid uid item then record item { seen = option_or item.seen (Some now) } else item
+abbrev pub marked_at : ℕ → Option ℕ → Option ℕ
+marked_at now seen = option_or seen (Some now)
+
+abbrev pub mark_entry : ℕ → ℕ → Entry → Entry
+mark_entry uid now entry = if has_uid uid entry then record entry { seen = marked_at now entry.seen } else entry
 
 abbrev pub after : Mailbox → Change → Mailbox
 after m (Arrive card) = with_arrival m (Ok card)
 after m (ArriveFault fault) = with_arrival m (Err fault)
-after m (Expunge uid) = record m { items = filter (λ item. not (has_uid uid item)) m.items }
-after m (Seen uid) = record m { items = map (marked uid m.now) m.items }
+after m (Expunge uid) = record m { entries = filter (λ entry. not (has_uid uid entry)) m.entries }
+after m (Seen uid) = record m { entries = map (mark_entry uid m.now) m.entries }
 after m (At moment) = record m { now = max m.now moment }
 
 abbrev pub after_all : Mailbox → List Change → Mailbox
@@ -67,8 +95,8 @@ after_all m (change ∷ changes) = after_all (after m change) changes
 
 -- ---- limits
 
-abbrev pub max_items : ℕ
-max_items = 65536
+abbrev pub max_entries : ℕ
+max_entries = 65536
 
 abbrev pub max_total_weight : ℕ
 max_total_weight = 268435456
@@ -77,15 +105,15 @@ max_total_weight = 268435456
 abbrev pub end_of_uids : ℕ
 end_of_uids = 4294967295
 
-abbrev pub mail_weight : Result Card Fault → ℕ
-mail_weight (Ok card) = weight card
-mail_weight (Err fault) = 0
+abbrev pub weight_read : Result Card Fault → ℕ
+weight_read (Ok card) = weight card
+weight_read (Err fault) = 0
 
-abbrev pub weights : List Item → ℕ
-weights items = sum_by (λ item. mail_weight item.mail) items
+abbrev pub weights : List Entry → ℕ
+weights entries = sum_by (λ entry. weight_read entry.read) entries
 
 abbrev pub lacks_room : Mailbox → ℕ → Bool
-lacks_room m more = nat_le max_items (length m.items) || nat_le end_of_uids m.next_uid || nat_lt max_total_weight (weights m.items + more)
+lacks_room m more = nat_le max_entries (length m.entries) || nat_le end_of_uids m.next_uid || nat_lt max_total_weight (weights m.entries + more)
 
 -- only an arrival is ever refused
 abbrev pub full : Mailbox → Change → Bool
@@ -98,24 +126,24 @@ full m (At moment) = false
 -- ---- rules
 
 -- the uids rise, from low on, and stay below the next one
-abbrev pub RiseBelow : ℕ → List Item → ℕ → Type 0
+abbrev pub RiseBelow : ℕ → List Entry → ℕ → Type 0
 RiseBelow low [] next = low ≤ next
-RiseBelow low (item ∷ items) next = (low ≤ item.uid) × RiseBelow (item.uid + 1) items next
+RiseBelow low (entry ∷ entries) next = (low ≤ entry.uid) × RiseBelow (entry.uid + 1) entries next
 
 -- a mail arrived by now and was seen since, and its card is valid
-pub record IsItem (now : ℕ) (item : Item) : Type 0 where
-  pub arrived : item.arrival ≤ now
-  pub seen_after : IfSome item.seen (λ seen. item.arrival ≤ seen)
-  pub seen_by : IfSome item.seen (λ seen. seen ≤ now)
-  pub valid : IfOk item.mail (λ card. IsTrue (is_valid card))
+pub record IsEntry (now : ℕ) (entry : Entry) : Type 0 where
+  pub arrived : entry.arrival ≤ now
+  pub seen_after : IfSome entry.seen (λ seen. entry.arrival ≤ seen)
+  pub seen_by : IfSome entry.seen (λ seen. seen ≤ now)
+  pub valid : IfOk entry.read (λ card. IsTrue (is_valid card))
 
 pub record IsMailbox (m : Mailbox) : Type 0 where
   pub moment : m.now ≤ last_moment
-  pub uids : RiseBelow 1 m.items m.next_uid
+  pub uids : RiseBelow 1 m.entries m.next_uid
   pub next : m.next_uid ≤ end_of_uids
-  pub each : AllByRecursion (IsItem m.now) m.items
-  pub count_fits : length m.items ≤ max_items
-  pub weight_fits : weights m.items ≤ max_total_weight
+  pub each : AllByRecursion (IsEntry m.now) m.entries
+  pub count_fits : length m.entries ≤ max_entries
+  pub weight_fits : weights m.entries ≤ max_total_weight
 
 abbrev pub IsValidChange : Change → Type 0
 IsValidChange (Arrive card) = IsTrue (is_valid card)

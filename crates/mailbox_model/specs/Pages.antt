@@ -8,6 +8,7 @@ use Rattle.card_type.specs.Keys.{key_eq}
 use Rattle.mailbox_model.specs.declared.row.UpdateRow.{UpdateRow}
 use Rattle.mailbox_model.specs.declared.row.Row.{Row}
 use Rattle.mailbox_model.specs.declared.page.ChatPage.{ChatPage}
+use Rattle.mailbox_model.specs.declared.roster.Roster.{Roster}
 use Rattle.mailbox_model.specs.Lists.{Bytes}
 use Rattle.mailbox_model.specs.Mailbox.{Mailbox}
 use Rattle.mailbox_model.specs.Present.{has_id, contents}
@@ -24,10 +25,11 @@ keys m = firsts key_eq (map (λ k. k.1) (chats m))
 abbrev pub shown_rows : Mailbox → ChatKey → List Row
 shown_rows m key = filter_map (row m) (chat_mails m key)
 
+abbrev pub page_by : ChatKey → Bytes → Roster → List Row → ChatPage
+page_by key name r rows = record { key = key; name = name; members = r.members; timer = r.timer; rows = rows }
+
 abbrev pub page_of : Mailbox → ChatKey → ChatPage
-page_of m key =
-    let r = roster m key in
-    record { key = key; name = name m key; members = r.members; timer = r.timer; rows = shown_rows m key }
+page_of m key = page_by key (name m key) (roster m key) (shown_rows m key)
 
 -- the page of a chat that has a card
 abbrev pub page : Mailbox → ChatKey → Option ChatPage

@@ -1,5 +1,5 @@
 -- Who is in a chat, how a group or thread is called, and when its mails vanish.
-use Rattle.std.specs.Prelude.{ℕ, Bool, true, false, not, ◌&&◌, ◌||◌, if◌then◌else◌, is_some, List, [], ◌∷◌, ◌++◌, map, fold}
+use Rattle.std.specs.Prelude.{ℕ, Bool, true, false, ◌&&◌, ◌||◌, if◌then◌else◌, is_some, List, [], ◌∷◌, ◌++◌, map, fold}
 use Rattle.std.specs.Option.{option_map_or, option_to_list}
 use Rattle.lists.specs.Distinct.{each_once}
 use Rattle.card_type.specs.declared.card.Card.{Card}
@@ -24,6 +24,7 @@ timer_after timer c = if c.chat then c.timer else timer
 
 -- ---- a group
 
+-- the first card says who is in, the name and the timer
 abbrev pub group_begun : Card → Roster
 group_begun c = record { begun = true; members = listed c; name = c.group_name; timer = timer_after 0 c }
 
@@ -33,39 +34,43 @@ changes_members c = is_some c.added || is_some c.removed
 abbrev pub changes_name : Card → Bool
 changes_name c = c.renamed && has_some c.group_name
 
--- a card of a member says who is in, the name and the timer
+-- a card of a member may say them anew
 abbrev pub group_after_member : Roster → Card → Roster
 group_after_member r c =
-    record {
-      begun = true;
+    record r {
       members = if changes_members c then listed c else r.members;
       name = if changes_name c then c.group_name else r.name;
       timer = timer_after r.timer c;
     }
 
--- after the first card, after one of a member, and after one of a stranger
+-- a card of a stranger says nothing
 abbrev pub group_after : Roster → Card → Roster
-group_after r c =
-    if not r.begun then group_begun c
-    else if is_among r.members c.from then group_after_member r c
-    else r
+group_after r c = if is_among r.members c.from then group_after_member r c else r
 
 -- ---- other chats
 
+abbrev pub thread_begun : Card → Roster
+thread_begun c = record { begun = true; members = each_once (people c); name = c.subject; timer = timer_after 0 c }
+
 abbrev pub thread_after : Roster → Card → Roster
-thread_after r c =
-    record {
-      begun = true;
-      members = each_once (r.members ++ people c);
-      name = if r.begun then r.name else c.subject;
-      timer = timer_after r.timer c;
-    }
+thread_after r c = record r { members = each_once (r.members ++ people c); timer = timer_after r.timer c }
+
+abbrev pub direct_begun : List Bytes → Card → Roster
+direct_begun members c = record { begun = true; members = members; name = []; timer = timer_after 0 c }
 
 abbrev pub direct_after : Roster → Card → Roster
-direct_after r c = record r { begun = true; timer = timer_after r.timer c }
+direct_after r c = record r { timer = timer_after r.timer c }
 
 -- ---- any chat
 
+-- of the first card
+abbrev pub roster_begun : Bytes → ChatKey → Card → Roster
+roster_begun me SelfChat c = direct_begun (me ∷ []) c
+roster_begun me (Single a) c = direct_begun (me ∷ a ∷ []) c
+roster_begun me (Group g) c = group_begun c
+roster_begun me (Thread i) c = thread_begun c
+
+-- after each further card
 abbrev pub roster_after : ChatKey → Roster → Card → Roster
 roster_after SelfChat r c = direct_after r c
 roster_after (Single a) r c = direct_after r c
@@ -82,9 +87,10 @@ first_members me (Thread i) = []
 abbrev pub no_roster : Bytes → ChatKey → Roster
 no_roster me key = record { begun = false; members = first_members me key; name = []; timer = 0 }
 
--- of these cards, in mail order
+-- of these cards, in mail order: the first one, and then the others
 abbrev pub roster_of : Bytes → ChatKey → List Card → Roster
-roster_of me key cards = fold (roster_after key) (no_roster me key) cards
+roster_of me key [] = no_roster me key
+roster_of me key (c ∷ cs) = fold (roster_after key) (roster_begun me key c) cs
 
 abbrev pub roster : Mailbox → ChatKey → Roster
-roster m key = roster_of m.me key (map (λ mail. mail.card) (chat_mails m key))
+roster m key = roster_of m.me key (map (λ t. t.placed.card) (chat_mails m key))

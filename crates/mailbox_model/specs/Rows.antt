@@ -1,5 +1,5 @@
 -- A card of kind Content as it is shown.
-use Rattle.std.specs.Prelude.{ℕ, ◌+◌, Bool, true, false, ◌||◌, nat_lt, nat_le, if◌then◌else◌, Option, Some, None, is_some, option_map, List, map, filter, flat_map}
+use Rattle.std.specs.Prelude.{ℕ, ◌+◌, Bool, true, false, ◌&&◌, ◌||◌, ◌==◌, nat_lt, nat_le, if◌then◌else◌, Option, Some, None, is_some, option_map, List, map, filter, filter_map, flat_map}
 use Rattle.std.specs.List.{enumerate_from}
 use Rattle.std.specs.Option.{option_map_or}
 use Rattle.std.specs.Str.{bytes_eq}
@@ -8,7 +8,7 @@ use Rattle.card_type.specs.declared.card.Card.{Card}
 use Rattle.card_type.specs.declared.card.Update.{Update}
 use Rattle.card_type.specs.declared.effect.Effect.{Effect}
 use Rattle.card_type.specs.declared.effect.Effect.TheVariants as effects
-use Rattle.card_type.specs.Effects.{effect_of}
+use Rattle.card_type.specs.Effects.{effect_of, is_among, names}
 use Rattle.card_type.specs.Kinds.{has_some}
 use Rattle.mailbox_model.specs.declared.row.Mark.{Mark}
 use Rattle.mailbox_model.specs.declared.row.Mark.TheVariants.{Out, New, Seen}
@@ -16,7 +16,7 @@ use Rattle.mailbox_model.specs.declared.row.UpdateRow.{UpdateRow}
 use Rattle.mailbox_model.specs.declared.row.Row.{Row}
 use Rattle.mailbox_model.specs.Lists.{Bytes, last_of}
 use Rattle.mailbox_model.specs.Mailbox.{Mailbox}
-use Rattle.mailbox_model.specs.Present.{Mail, present}
+use Rattle.mailbox_model.specs.Present.{Placed, Mail, present_cards}
 
 -- ---- what acts on it
 
@@ -27,83 +27,122 @@ is_effect effects.Read effects.Read = true
 is_effect effects.Update effects.Update = true
 is_effect x y = false
 
--- whether e acts on t in this way
-abbrev pub acts : Bytes → Effect → Card → Card → Bool
-acts me effect t e = option_map_or (is_effect effect) (effect_of e t me) false
+-- what a card does
+pub record Act : Type 0 where
+  pub effect : Effect
+  pub by : Placed
 
--- the present mails that act on t in this way, in mail order
-abbrev pub acting : Mailbox → Effect → Card → List Mail
-acting m effect t = filter (λ e. acts m.me effect t e.card) (present m)
+-- what e does to t, if anything
+abbrev pub act_on : Bytes → Card → Placed → Option Act
+act_on me t e = option_map (λ effect. record { effect = effect; by = e }) (effect_of e.card t me)
+
+-- what these do to t, in their order
+abbrev pub acts_on : Bytes → Card → List Placed → List Act
+acts_on me t es = filter_map (act_on me t) es
+
+-- the cards that act in this way
+abbrev pub acting_by : Effect → List Act → List Placed
+acting_by effect acts = map (λ act. act.by) (filter (λ act. is_effect effect act.effect) acts)
+
+-- those that name an id
+abbrev pub naming : Bytes → List Placed → List Placed
+naming id es = filter (λ e. is_among (names e.card) id) es
 
 -- ---- whether it is shown
 
-abbrev pub is_withdrawn : Mailbox → Mail → Bool
-is_withdrawn m t = has_some (acting m effects.Delete t.card)
+abbrev pub is_withdrawn : List Act → Bool
+is_withdrawn acts = has_some (acting_by effects.Delete acts)
 
 abbrev pub is_sent : Bytes → Card → Bool
 is_sent me t = bytes_eq t.from me
 
 -- from when on its timer runs: what was sent from its date, what was received from when it was seen
 abbrev pub timed_from : Bytes → Mail → Option ℕ
-timed_from me t = if is_sent me t.card then Some t.date else t.seen
+timed_from me t = if is_sent me t.placed.card then Some t.placed.date else t.seen
 
 -- the moment at which it expires, if it ever does
 abbrev pub expiry : Bytes → Mail → Option ℕ
-expiry me t = if nat_lt 0 t.card.timer then option_map (λ start. start + t.card.timer) (timed_from me t) else None
+expiry me t =
+    if nat_lt 0 t.placed.card.timer then option_map (λ start. start + t.placed.card.timer) (timed_from me t) else None
 
-abbrev pub is_expired : Mailbox → Mail → Bool
-is_expired m t = option_map_or (λ end. nat_le end m.now) (expiry m.me t) false
+abbrev pub is_expired : Bytes → ℕ → Mail → Bool
+is_expired me now t = option_map_or (λ end. nat_le end now) (expiry me t) false
 
 -- ---- how it is shown
 
 abbrev pub mark_of : Bytes → Mail → Mark
-mark_of me t = if is_sent me t.card then Out else if is_some t.seen then Seen else New
+mark_of me t = if is_sent me t.placed.card then Out else if is_some t.seen then Seen else New
 
 -- the card that has its text, which may be cut: the last edit, else its own
-abbrev pub text_card : Option Mail → Card → Card
+abbrev pub text_card : Option Placed → Card → Card
 text_card edit t = option_map_or (λ e. e.card) edit t
 
-abbrev pub same_sender : Mail → Mail → Bool
+abbrev pub same_sender : Placed → Placed → Bool
 same_sender a b = bytes_eq a.card.from b.card.from
 
 -- who read it, each once, and when first
-abbrev pub readers_by : List Mail → List (Bytes × ℕ)
+abbrev pub readers_by : List Placed → List (Bytes × ℕ)
 readers_by receipts = map (λ e. (e.card.from, e.date)) (firsts same_sender receipts)
 
--- the updates of a mail, each with its index from 0
-abbrev pub parts_of : Mail → List (Mail × ℕ × Update)
-parts_of e = map (λ part. (e, part.0, part.1)) (enumerate_from 0 e.card.updates)
+-- an update, with the card that brings it and its index among those of that card
+pub record Brought : Type 0 where
+  pub by : Placed
+  pub part : ℕ
+  pub update : Update
 
-abbrev pub update_row : ℕ → (Mail × ℕ × Update) → UpdateRow
-update_row serial part = record { serial = serial; uid = part.0.uid; part = part.1; from = part.0.card.from; update = part.2 }
+abbrev pub brought_by : Placed → List Brought
+brought_by e = map (λ p. record { by = e; part = p.0; update = p.1 }) (enumerate_from 0 e.card.updates)
+
+abbrev pub update_row : ℕ → Brought → UpdateRow
+update_row serial b = record { serial = serial; uid = b.by.uid; part = b.part; from = b.by.card.from; update = b.update }
 
 -- the updates in mail order, numbered from 1
-abbrev pub updates_by : List Mail → List UpdateRow
-updates_by es = map (λ part. update_row part.0 part.1) (enumerate_from 1 (flat_map parts_of es))
+abbrev pub updates_by : List Placed → List UpdateRow
+updates_by es = map (λ b. update_row b.0 b.1) (enumerate_from 1 (flat_map brought_by es))
 
-abbrev pub row_of : Mailbox → Mail → Row
-row_of m t =
-    let edit = last_of (acting m effects.Edit t.card) in
+-- whether two rows are of one place in one mail
+abbrev pub same_part : UpdateRow → UpdateRow → Bool
+same_part a b = (a.uid == b.uid) && (a.part == b.part)
+
+-- what is shown of t where these act on it
+abbrev pub shown_by : Bytes → Mail → List Act → Row
+shown_by me t acts =
+    let card = t.placed.card in
+    let edit = last_of (acting_by effects.Edit acts) in
     record {
-      uid = t.uid;
-      id = t.card.id;
-      date = t.date;
-      from = t.card.from;
-      chat = t.card.chat;
-      subject = t.card.subject;
-      text = (text_card edit t.card).text;
-      cut = (text_card edit t.card).cut;
+      uid = t.placed.uid;
+      id = card.id;
+      date = t.placed.date;
+      from = card.from;
+      chat = card.chat;
+      subject = card.subject;
+      text = (text_card edit card).text;
+      cut = (text_card edit card).cut;
       edited = is_some edit;
-      mark = mark_of m.me t;
-      attachments = t.card.attachments;
-      readers = readers_by (acting m effects.Read t.card);
-      app = t.card.app;
-      updates = updates_by (acting m effects.Update t.card);
+      mark = mark_of me t;
+      attachments = card.attachments;
+      readers = readers_by (acting_by effects.Read acts);
+      app = card.app;
+      updates = updates_by (acting_by effects.Update acts);
     }
 
--- the row of t, where it is neither withdrawn nor expired
+-- the row of t at a moment, where it is neither withdrawn nor expired
+abbrev pub row_by : Bytes → ℕ → Mail → List Act → Option Row
+row_by me now t acts = if is_withdrawn acts || is_expired me now t then None else Some (shown_by me t acts)
+
+-- ---- in a mailbox
+
+-- what the present cards do to t, in mail order
+abbrev pub acting : Mailbox → Card → List Act
+acting m t = acts_on m.me t (present_cards m)
+
 abbrev pub row : Mailbox → Mail → Option Row
-row m t = if is_withdrawn m t || is_expired m t then None else Some (row_of m t)
+row m t = row_by m.me m.now t (acting m t.placed.card)
+
+abbrev pub is_new : Mark → Bool
+is_new Out = false
+is_new New = true
+is_new Seen = false
 
 abbrev pub is_fresh : Row → Bool
-is_fresh r = elim r.mark [ New ↦ true | _ ↦ false ]
+is_fresh r = is_new r.mark

@@ -1,4 +1,5 @@
 use Rattle.mailbox_model.proofs.PresentLaws.{mails_all, mails_sorted, present_first, present_once, present_sorted}
+use Rattle.mailbox_model.proofs.StillLaws.{present_dates}
 use Rattle.mailbox_model.proofs.laws.present_is_in_order.Goals as goal
 
 pub returns-clause-all : goal.returns-clause-all
@@ -15,3 +16,6 @@ returns-clause-once c = present_once
 
 pub returns-clause-present : goal.returns-clause-present
 returns-clause-present c = λ m k. present_sorted m k.uids
+
+pub returns-clause-dates : goal.returns-clause-dates
+returns-clause-dates c = present_dates
