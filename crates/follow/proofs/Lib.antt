@@ -1,7 +1,6 @@
 -- Lemmas of this crate, and rows that compute.
 pub mod Arrivals
 pub mod CardIds
-pub mod CivilLemmas
 mod DateRows
 pub mod Clocks
 pub mod Followed

@@ -13,6 +13,7 @@ pub mod PresentLaws
 pub mod ListLaws
 pub mod FrameLaws
 pub mod StateLaws
+pub mod CivilLaws
 pub mod AnswerLaws
 mod Worked
 mod Edges

@@ -1,9 +1,11 @@
 //! Laws of the definition of a mailbox and its pages. Each is the contract of a function that does nothing: its
 //! clauses speak of every mailbox and every change.
-ghost use Rattle.std.specs.Prelude.{◌≡◌, ◌↔◌, ◌⊎◌, ◌<◌, ◌≤◌, ℕ, false, true, Some, None, List, [], ◌∷◌, ◌++◌, length, map, find, filter_map, option_and_then, option_map, is_some, if◌then◌else◌, IfSome, max};
+ghost use Rattle.std.specs.Prelude.{◌≡◌, ◌↔◌, ◌⊎◌, ◌<◌, ◌≤◌, ℕ, pos, false, true, Some, None, List, [], ◌∷◌, ◌++◌, length, map, find, filter_map, option_and_then, option_map, is_some, if◌then◌else◌, IfSome, max};
 ghost use Rattle.std.specs.List.{AllByRecursion, list_any, IsDistinct, range_with_len};
 ghost use Rattle.std.specs.List.Sorted.{IsStrictlySortedBy, IsPermutation};
 ghost use Rattle.std.specs.Str.{bytes_eq};
+ghost use Rattle.jiff_core.specs.declared.civil.date.Date.{Date};
+ghost use Rattle.jiff_core.specs.Date.{epoch_day, IsYmd};
 ghost use Rattle.card_type.specs.declared.card.Card.{Card};
 ghost use Rattle.card_type.specs.Keys.{key_eq};
 ghost use Rattle.card_type.specs.Kinds.{has_some};
@@ -23,6 +25,7 @@ ghost use Rattle.mailbox_model.specs.Pages.{keys, page};
 ghost use Rattle.mailbox_model.specs.Frames.{IsCardAlike, IsChatAlike, NameStays, Stays};
 ghost use Rattle.mailbox_model.specs.ChatList.{list_page, list_row, list_cmp};
 ghost use Rattle.mailbox_model.specs.States.{chat_cards, fresh_among, last_spot};
+ghost use Rattle.mailbox_model.specs.Times.{civil_date};
 ghost use Rattle.mailbox_model.specs.Answers.{Question, answer};
 
 /// Each change keeps the rules of a mailbox.
@@ -166,6 +169,13 @@ pub fn a_page_follows_from_its_chat()
     ensures last { (m : Mailbox) (key : ChatKey)
         → (list_row m key).time ≡ option_map (λ spot. spot.date) (last_spot (chat_cards m key)) }
     ensures fresh { (m : Mailbox) (key : ChatKey) → (list_row m key).fresh ≡ fresh_among (chat_cards m key) }
+{}
+
+/// The date that is printed of a moment is that of its day: the date of the calendar that is so many days after
+/// 1970-01-01.
+pub fn a_day_has_one_date()
+    ensures { (date : Date) (days : ℕ) → epoch_day date ≡ pos days
+        → IsYmd (pos (civil_date days).year) (pos (civil_date days).month) (pos (civil_date days).day) date }
 {}
 
 /// One mailbox has one text: where the own addresses, the moments and the entries are equal, each question is answered by

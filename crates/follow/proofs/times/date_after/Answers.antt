@@ -1,6 +1,6 @@
 use Rattle.std.proofs.Common.{arith, w64}
 use Rattle.std.proofs.lemmas.Int.{to_z_pos}
-use Rattle.follow.proofs.CivilLemmas.{civil_date_is}
+use Rattle.mailbox_model.proofs.CivilLaws.{civil_date_is}
 use Rattle.follow.proofs.times.date_after.Goals as goal
 
 pub returns-clause-parts : goal.returns-clause-parts
