@@ -8,5 +8,3 @@ pub mod KeyTexts
 pub mod Spots
 pub mod Records
 pub mod Rules
--- What only proofs and private functions use.
-pub mod CardParts

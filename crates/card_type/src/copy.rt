@@ -1,6 +1,5 @@
 //! Copies of cards.
 ghost use Rattle.std.specs.Prelude.{◌≡◌, IfOk};
-ghost use Rattle.card_type.specs.CardParts.{people_of, links_of, group_of, shown_of, acts_of, joined};
 
 use crate::card::{Attachment, Card, Update};
 use crate::group_id::GroupId;
@@ -54,7 +53,8 @@ struct Acts {
 }
 
 fn copy_people(card: &Card) -> Result<People, Memory>
-    ensures { IfOk result (λ people. people ≡ people_of card.now) }
+    ensures from { IfOk result (λ people. (people.from ≡ card.now.from) × (people.from_name ≡ card.now.from_name)) }
+    ensures to { IfOk result (λ people. (people.to ≡ card.now.to) × (people.cc ≡ card.now.cc)) }
 {
     Ok(People {
         from: card.from.copy()?,
@@ -65,7 +65,7 @@ fn copy_people(card: &Card) -> Result<People, Memory>
 }
 
 fn copy_links(card: &Card) -> Result<Links, Memory>
-    ensures { IfOk result (λ links. links ≡ links_of card.now) }
+    ensures { IfOk result (λ links. links ≡ record { id = card.now.id; replies = card.now.replies; references = card.now.references }) }
 {
     Ok(Links {
         id: card.id.copy()?,
@@ -75,7 +75,7 @@ fn copy_links(card: &Card) -> Result<Links, Memory>
 }
 
 fn copy_group(card: &Card) -> Result<Group, Memory>
-    ensures { IfOk result (λ group. group ≡ group_of card.now) }
+    ensures { IfOk result (λ group. group ≡ record { group = card.now.group; group_name = card.now.group_name; added = card.now.added; removed = card.now.removed }) }
 {
     Ok(Group {
         group: copy_option(&card.group)?,
@@ -86,7 +86,7 @@ fn copy_group(card: &Card) -> Result<Group, Memory>
 }
 
 fn copy_shown(card: &Card) -> Result<Shown, Memory>
-    ensures { IfOk result (λ shown. shown ≡ shown_of card.now) }
+    ensures { IfOk result (λ shown. shown ≡ record { subject = card.now.subject; text = card.now.text; attachments = card.now.attachments }) }
 {
     Ok(Shown {
         subject: card.subject.copy()?,
@@ -96,7 +96,7 @@ fn copy_shown(card: &Card) -> Result<Shown, Memory>
 }
 
 fn copy_acts(card: &Card) -> Result<Acts, Memory>
-    ensures { IfOk result (λ acts. acts ≡ acts_of card.now) }
+    ensures { IfOk result (λ acts. acts ≡ record { edit = card.now.edit; deletes = card.now.deletes; receipt = card.now.receipt; updates = card.now.updates }) }
 {
     Ok(Acts {
         edit: copy_option(&card.edit)?,
@@ -104,38 +104,6 @@ fn copy_acts(card: &Card) -> Result<Acts, Memory>
         receipt: copy_option(&card.receipt)?,
         updates: card.updates.copy()?,
     })
-}
-
-/// The card of which these are the parts, with the numbers and flags of another.
-fn joined(people: People, links: Links, group: Group, shown: Shown, acts: Acts, card: &Card) -> Card
-    ensures { result ≡ joined people links group shown acts card.now }
-{
-    Card {
-        id: links.id,
-        from: people.from,
-        from_name: people.from_name,
-        to: people.to,
-        cc: people.cc,
-        date: card.date,
-        replies: links.replies,
-        references: links.references,
-        chat: card.chat,
-        group: group.group,
-        group_name: group.group_name,
-        added: group.added,
-        removed: group.removed,
-        renamed: card.renamed,
-        edit: acts.edit,
-        deletes: acts.deletes,
-        timer: card.timer,
-        subject: shown.subject,
-        text: shown.text,
-        cut: card.cut,
-        attachments: shown.attachments,
-        receipt: acts.receipt,
-        app: card.app,
-        updates: acts.updates,
-    }
 }
 
 impl Card {
@@ -148,6 +116,31 @@ impl Card {
         let group = copy_group(self)?;
         let shown = copy_shown(self)?;
         let acts = copy_acts(self)?;
-        Ok(joined(people, links, group, shown, acts, self))
+        Ok(Card {
+            id: links.id,
+            from: people.from,
+            from_name: people.from_name,
+            to: people.to,
+            cc: people.cc,
+            date: self.date,
+            replies: links.replies,
+            references: links.references,
+            chat: self.chat,
+            group: group.group,
+            group_name: group.group_name,
+            added: group.added,
+            removed: group.removed,
+            renamed: self.renamed,
+            edit: acts.edit,
+            deletes: acts.deletes,
+            timer: self.timer,
+            subject: shown.subject,
+            text: shown.text,
+            cut: self.cut,
+            attachments: shown.attachments,
+            receipt: acts.receipt,
+            app: self.app,
+            updates: acts.updates,
+        })
     }
 }

@@ -1,14 +1,17 @@
 //! A map by the keys of chats.
-ghost use Rattle.std.specs.Prelude.{◌≡◌, IfOk, OnOk, OnErr};
+ghost use Rattle.std.specs.Prelude.{◌≡◌, None, Some, IfErr, IfOk, OnOk, OnErr};
 ghost use Rattle.std.specs.FinMap as map;
 ghost use Rattle.std.specs.Option.{option_copied};
+ghost use Rattle.std.specs.Map.Iter.{ShowsInOrder, deref_pair};
 ghost use Rattle.card_type.specs.Keys.{key_cmp, coded_key};
 
 use crate::key::ChatKey;
 use kit::Memory;
 use std::alloc::Global;
 use std::collections::BTreeMap;
+use std::collections::btree_map::Iter;
 use std::marker::Model;
+use std::mem;
 
 /// A value for each of some chats, by key. A contract sees it as a finite map.
 #[derive(Drop)]
@@ -41,6 +44,14 @@ impl<V: Drop> KeyMap<V> {
         self.values.get(key)
     }
 
+    /// The entries, each once, in the order of their keys. Takes no memory.
+    pub fn iter(&self) -> Iter<'_, ChatKey, V>
+        ensures rest { result ≡ map.entries self.now }
+        ensures runs { ShowsInOrder (deref_pair {K = ChatKey} {X = V}) }
+    {
+        self.values.iter()
+    }
+
     /// Gives a key a value, and returns the value that it had. Takes memory; `Err` only when it runs out, and
     /// then the map is as before.
     pub fn insert(&mut self, key: ChatKey, value: V) -> Result<Option<V>, Memory>
@@ -57,5 +68,19 @@ impl<V: Drop> KeyMap<V> {
         ensures after { self.new ≡ map.remove self.old key.now }
     {
         self.values.remove(key)
+    }
+
+    /// Gives another value to a key that has one, and returns the one before. `Err` gives the value back, exactly where the
+    /// key has none, and then the map is as before. Takes no memory.
+    pub fn replace(&mut self, key: &ChatKey, value: V) -> Result<V, V>
+        ensures before { IfOk result (λ before. map.get self.old key.now ≡ Some before) }
+        ensures ok { OnOk result (self.new ≡ map.insert self.old key.now value) }
+        ensures back { IfErr result (λ back. (back ≡ value) × (map.get self.old key.now ≡ None)) }
+        ensures err { OnErr result (self.new ≡ self.old) }
+    {
+        match self.values.get_mut(key) {
+            Some(place) => Ok(mem::replace(place, value)),
+            None => Err(value),
+        }
     }
 }

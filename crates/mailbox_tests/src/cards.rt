@@ -198,6 +198,26 @@ fn a_map_by_key(rt: HostRuntime) -> Result<(), Fail> {
 }
 
 #[test]
+fn entries_by_key(rt: HostRuntime) -> Result<(), Fail> {
+    let alloc = rt.alloc();
+    let mut map: KeyMap<u32> = KeyMap::new(alloc);
+    map.insert(key(alloc, "thread:a")?, 2)?;
+    map.insert(key(alloc, "self")?, 1)?;
+    assert_eq!(rt; map.replace(&key(alloc, "self")?, 3), Ok(1));
+    assert_eq!(rt; map.replace(&key(alloc, "single:bob@x.org")?, 4), Err(4));
+    let mut entries = map.iter();
+    for (text, value) in [("self", 3), ("thread:a", 2)] {
+        assert_eq!(rt;
+            entries.next(),
+            Some((&key(alloc, text)?, &value)),
+            "{text}"
+        );
+    }
+    assert_eq!(rt; entries.next(), None);
+    Ok(())
+}
+
+#[test]
 fn group_ids(rt: HostRuntime) -> Result<(), Fail> {
     let alloc = rt.alloc();
     for (bytes, is_valid) in GROUP_IDS {
