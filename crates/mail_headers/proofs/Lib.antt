@@ -2,5 +2,8 @@
 pub mod Angles
 pub mod Continuations
 pub mod SplitLemmas
+pub mod FieldLines
+pub mod Finds
 pub mod HeaderLines
+pub mod Layouts
 mod Rows

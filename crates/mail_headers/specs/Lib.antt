@@ -2,3 +2,5 @@
 pub mod Headers
 pub mod Fields
 pub mod Ids
+-- What only proofs use: how a header keeps its fields.
+pub mod Layout
