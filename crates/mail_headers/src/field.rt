@@ -4,23 +4,10 @@ ghost use Rattle.std.specs.List.{cons_option};
 ghost use Rattle.kit.specs.Lines.{content, raw_lines};
 ghost use Rattle.kit.specs.White.{trim};
 ghost use Rattle.mail_headers.specs.Fields.{name_and_rest, continues, continuation, field_of};
-ghost use Rattle.mail_headers.specs.Layout.{fields_in, total};
+ghost use Rattle.mail_headers.specs.Layout.{IsFull, all_fields};
 
 use crate::fields::Fields;
 use kit::{Memory, content, is_visible, is_white, split_line, split_once, trim, trim_end};
-
-/// The name of a field line, and what follows its colon. White space before the colon is obsolete
-/// (RFC 5322, section 4.5.8), and not of the name.
-fn name_and_rest(line: &[u8]) -> Option<(&[u8], &[u8])>
-    ensures { option_map (λ p. (p.0.now, p.1.now)) result ≡ name_and_rest line.now }
-{
-    let (before, rest) = split_once(line, b':')?;
-    let name = trim_end(before);
-    if !is_visible(name) {
-        return None;
-    }
-    Some((name, rest))
-}
 
 /// Whether a line continues the one before it (RFC 5322, section 2.2.3).
 fn continues(line: &[u8]) -> bool
@@ -30,6 +17,23 @@ fn continues(line: &[u8]) -> bool
         [first, ..] => is_white(*first),
         [] => false,
     }
+}
+
+/// The name of a field line, and what follows its colon. White space before the colon is obsolete
+/// (RFC 5322, section 4.5.8), and not of the name. No name begins with white space, so a line that
+/// continues another is not searched for a colon.
+fn name_and_rest(line: &[u8]) -> Option<(&[u8], &[u8])>
+    ensures { option_map (λ p. (p.0.now, p.1.now)) result ≡ name_and_rest line.now }
+{
+    if continues(line) {
+        return None;
+    }
+    let (before, rest) = split_once(line, b':')?;
+    let name = trim_end(before);
+    if !is_visible(name) {
+        return None;
+    }
+    Some((name, rest))
 }
 
 /// The content of the first of the lines that follow a line, and what follows it: `None` where it does not
@@ -67,11 +71,9 @@ fn push_field(
     rest: &[u8],
     following: &[u8],
 ) -> Result<(), Memory>
-    requires { total fields.old.lengths.items ≡ length fields.old.bytes.items }
-    ensures total { OnOk result (total fields.new.lengths.items ≡ length fields.new.bytes.items) }
-    ensures fields { OnOk result (fields_in fields.new.lengths.items fields.new.bytes.items
-        ≡ fields_in fields.old.lengths.items fields.old.bytes.items
-        ++ record { name = name.now; body = trim (rest.now ++ continuation (map content (raw_lines following.now))) } ∷ []) }
+    requires { IsFull fields.old }
+    ensures full { OnOk result (IsFull fields.new) }
+    ensures fields { OnOk result (all_fields fields.new ≡ all_fields fields.old ++ record { name = name.now; body = trim (rest.now ++ continuation (map content (raw_lines following.now))) } ∷ []) }
 {
     if split_continuation(following).is_none() {
         return fields.push(name, trim(rest));
@@ -90,11 +92,9 @@ pub fn push_line(
     line: &[u8],
     following: &[u8],
 ) -> Result<(), Memory>
-    requires { total fields.old.lengths.items ≡ length fields.old.bytes.items }
-    ensures total { OnOk result (total fields.new.lengths.items ≡ length fields.new.bytes.items) }
-    ensures fields { OnOk result (fields_in fields.new.lengths.items fields.new.bytes.items
-        ≡ fields_in fields.old.lengths.items fields.old.bytes.items
-        ++ cons_option (field_of line.now (map content (raw_lines following.now))) []) }
+    requires { IsFull fields.old }
+    ensures full { OnOk result (IsFull fields.new) }
+    ensures fields { OnOk result (all_fields fields.new ≡ all_fields fields.old ++ cons_option (field_of line.now (map content (raw_lines following.now))) []) }
 {
     match name_and_rest(line) {
         Some((name, rest)) => push_field(fields, unfolded, name, rest, following),

@@ -2,7 +2,7 @@
 ghost use Rattle.std.specs.Prelude.{◌≡◌, [], ◌∷◌, ◌++◌, IfOk, OnOk, find, length, option_map};
 ghost use Rattle.std.specs.Option.{option_copied};
 ghost use Rattle.kit.specs.Letters.{same_name};
-ghost use Rattle.mail_headers.specs.Layout.{fields_in, total};
+ghost use Rattle.mail_headers.specs.Layout.{IsFull, all_fields};
 
 use kit::{Memory, same_name};
 use std::alloc::Global;
@@ -28,8 +28,8 @@ impl Fields {
     /// No fields, with room for a number of them and for the bytes of all. Takes memory; `Err` only when it
     /// runs out.
     pub fn with_capacity(alloc: Global, number: usize, bytes: usize) -> Result<Self, Memory>
-        ensures bytes { IfOk result (λ fields. fields.bytes.items ≡ []) }
-        ensures lengths { IfOk result (λ fields. fields.lengths.items ≡ []) }
+        ensures full { IfOk result IsFull }
+        ensures fields { IfOk result (λ fields. all_fields fields ≡ []) }
     {
         let bytes = Vec::with_capacity(alloc, bytes)?;
         let lengths = Vec::with_capacity(alloc, number)?;
@@ -38,10 +38,9 @@ impl Fields {
 
     /// Puts a field after the last one. Takes memory; `Err` only when it runs out.
     pub fn push(&mut self, name: &[u8], body: &[u8]) -> Result<(), Memory>
-        requires { total self.old.lengths.items ≡ length self.old.bytes.items }
-        ensures total { OnOk result (total self.new.lengths.items ≡ length self.new.bytes.items) }
-        ensures fields { OnOk result (fields_in self.new.lengths.items self.new.bytes.items
-            ≡ fields_in self.old.lengths.items self.old.bytes.items ++ record { name = name.now; body = body.now } ∷ []) }
+        requires { IsFull self.old }
+        ensures full { OnOk result (IsFull self.new) }
+        ensures fields { OnOk result (all_fields self.new ≡ all_fields self.old ++ record { name = name.now; body = body.now } ∷ []) }
     {
         self.bytes.extend_from_slice(name)?;
         self.bytes.extend_from_slice(body)?;
@@ -53,10 +52,10 @@ impl Fields {
     }
 
     /// The body of the first field of a name, where the case of letters does not count. Takes no memory.
-    pub fn body(&self, name: &[u8]) -> Option<&[u8]>
-        requires { total self.now.lengths.items ≡ length self.now.bytes.items }
+    pub fn first(&self, name: &[u8]) -> Option<&[u8]>
+        requires { IsFull self.now }
         ensures { option_copied result ≡ option_map (λ field. field.body)
-            (find (λ field. same_name field.name name.now) (fields_in self.now.lengths.items self.now.bytes.items)) }
+            (find (λ field. same_name field.name name.now) (all_fields self.now)) }
     {
         let mut left = self.bytes.as_slice();
         for lengths in &self.lengths {

@@ -3,7 +3,7 @@ ghost use Rattle.std.specs.Prelude.{◌≡◌, ◌≤◌, ◌++◌, IfOk, OnOk, 
 ghost use Rattle.kit.specs.Lines.{raw_lines};
 ghost use Rattle.mail_headers.specs.Fields.{fields_of};
 ghost use Rattle.mail_headers.specs.Headers.{header_lines, header_len, header_of};
-ghost use Rattle.mail_headers.specs.Layout.{fields_in, total};
+ghost use Rattle.mail_headers.specs.Layout.{IsFull, all_fields};
 
 use crate::field::push_line;
 use crate::fields::Fields;
@@ -20,15 +20,14 @@ pub struct Header {
 }
 
 impl Model for Header {
-    ghost use Rattle.std.specs.Prelude.{◌≡◌, length};
     ghost use Rattle.mail_headers.specs.Headers.{Head};
-    ghost use Rattle.mail_headers.specs.Layout.{fields_in, total};
+    ghost use Rattle.mail_headers.specs.Layout.{IsFull, all_fields};
 
     ghost Value = { Head };
 
-    ghost view = { λ header. record { fields = fields_in header.fields.lengths.items header.fields.bytes.items; body_at = header.body_at } };
+    ghost view = { λ header. record { fields = all_fields header.fields; body_at = header.body_at } };
 
-    ghost invariant = { λ header. total header.fields.lengths.items ≡ length header.fields.bytes.items };
+    ghost invariant = { λ header. IsFull header.fields };
 }
 
 impl Header {
@@ -45,7 +44,7 @@ impl Header {
         ensures body { option_copied result ≡ first_of self.now name.now }
         ensures found { IsSome result ↔ Any (λ field. IsTrue (same_name field.name name.now)) self.now.fields }
     {
-        self.fields.body(name)
+        self.fields.first(name)
     }
 
     /// The body of the first field of that name, as `first` gives it, or an empty one where the header has
@@ -77,25 +76,24 @@ fn extent(mail: &[u8]) -> (usize, usize)
     ensures offset { result.1 ≡ header_len (raw_lines mail.now) }
     ensures within { result.1 ≤ length mail.now }
 {
-    let mut number = 0;
+    let mut lines = 0;
     let mut left = mail;
     while let Some((raw, rest)) = split_line(left) {
         left = rest;
         if content(raw).is_empty() {
             break;
         }
-        number += 1;
+        lines += 1;
     }
-    (number, mail.len() - left.len())
+    (lines, mail.len() - left.len())
 }
 
 /// Appends the fields that begin in the header's lines. A line that begins no field is skipped, and the
 /// lines that continue it with it.
 fn push_fields(alloc: Global, fields: &mut Fields, mail: &[u8]) -> Result<(), Memory>
-    requires { total fields.old.lengths.items ≡ length fields.old.bytes.items }
-    ensures total { OnOk result (total fields.new.lengths.items ≡ length fields.new.bytes.items) }
-    ensures fields { OnOk result (fields_in fields.new.lengths.items fields.new.bytes.items
-        ≡ fields_in fields.old.lengths.items fields.old.bytes.items ++ fields_of (header_lines (raw_lines mail.now))) }
+    requires { IsFull fields.old }
+    ensures full { OnOk result (IsFull fields.new) }
+    ensures fields { OnOk result (all_fields fields.new ≡ all_fields fields.old ++ fields_of (header_lines (raw_lines mail.now))) }
 {
     let mut unfolded = Vec::new(alloc);
     let mut left = mail;
@@ -113,13 +111,15 @@ fn push_fields(alloc: Global, fields: &mut Fields, mail: &[u8]) -> Result<(), Me
 /// Reads the header of a mail: the lines before the first empty one, or all (RFC 5322, sections 2.1,
 /// 2.2 and 4.5). A field begins in a line of a name, white space or none, and a colon; lines that begin
 /// with white space continue it. Every other line is skipped, with those that continue it. Any bytes are
-/// a mail. Takes memory for a copy of each name and body; `Err` only when it runs out.
+/// a mail. Takes memory for the bytes of these lines, for two numbers for each line, and meanwhile for the
+/// longest body of more than one line; `Err` only when it runs out.
 pub fn read_header(alloc: Global, mail: &[u8]) -> Result<Header, Memory>
     ensures read { IfOk result (λ header. header ≡ header_of mail.now) }
     ensures within { IfOk result (λ header. header.body_at ≤ length mail.now) }
 {
-    let (number, body_at) = extent(mail);
-    let mut fields = Fields::with_capacity(alloc, number, body_at)?;
+    // No line begins more than one field, and no field has more bytes than its lines.
+    let (lines, body_at) = extent(mail);
+    let mut fields = Fields::with_capacity(alloc, lines, body_at)?;
     push_fields(alloc, &mut fields, mail)?;
     Ok(Header { fields, body_at })
 }

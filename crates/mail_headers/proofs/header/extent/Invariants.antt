@@ -5,7 +5,7 @@ use Rattle.mail_headers.proofs.header.extent.Given as goal
 
 abbrev pub invariant-loop-raw : goal.invariant-loop-raw
 invariant-loop-raw l = record {
-  within : l.number + length l.left ≤ length l.mail;
+  within : l.lines + length l.left ≤ length l.mail;
   offset : (length l.mail - length l.left) + header_len (raw_lines l.left) ≡ header_len (raw_lines l.mail);
 }
 

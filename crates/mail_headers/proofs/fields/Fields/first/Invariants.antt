@@ -1,7 +1,7 @@
 use Rattle.std.proofs.Common.{◌≡◌, drop, find, length}
 use Rattle.kit.specs.Letters.{same_name}
 use Rattle.mail_headers.specs.Layout.{fields_in, total}
-use Rattle.mail_headers.proofs.fields.Fields.body.Given as goal
+use Rattle.mail_headers.proofs.fields.Fields.first.Given as goal
 
 abbrev pub invariant-loop-lengths : goal.invariant-loop-lengths
 invariant-loop-lengths l = record {
