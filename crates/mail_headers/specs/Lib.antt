@@ -2,5 +2,5 @@
 pub mod Headers
 pub mod Fields
 pub mod Ids
--- What only proofs use: how a header keeps its fields.
+-- What only proofs and private functions use.
 pub mod Layout
