@@ -67,22 +67,15 @@ fn angle_ids(alloc: Global, body: &[u8]) -> Result<Vec<Id>, Memory>
     Ok(found)
 }
 
-/// The words between white space and commas that hold an `@`.
-fn at_words(alloc: Global, body: &[u8]) -> Result<Vec<&[u8]>, Memory>
-    ensures { IfOk result (λ words. map (λ word. word.now) words.items ≡ at_words body.now) }
-{
-    let words = body
-        .split(|b| is_white(*b) || *b == b',')
-        .filter(|word| word.contains(&b'@'))
-        .collect(alloc)?;
-    Ok(words)
-}
-
+/// The ids among the words between white space and commas that hold an `@`.
 fn word_ids(alloc: Global, body: &[u8]) -> Result<Vec<Id>, Memory>
     ensures { IfOk result (λ found. found.items ≡ filter is_id (at_words body.now)) }
 {
+    let words = body
+        .split(|b| is_white(*b) || *b == b',')
+        .filter(|word| word.contains(&b'@'));
     let mut found = Vec::new(alloc);
-    for word in &at_words(alloc, body)? {
+    for word in words {
         push_id(alloc, &mut found, word)?;
     }
     Ok(found)
