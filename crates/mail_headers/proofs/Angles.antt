@@ -1,11 +1,13 @@
--- The angles of bytes, by where each begins and ends.
-use Rattle.std.proofs.Common.{◌≡◌, ℕ, ◌<◌, List, [], ◌∷◌, ◌++◌, length, Option, Some, None, refl, sym, ap, ◌∙◌, arith, append_assoc, inl, inr}
+-- The angles of bytes, by where each begins and ends, and their white space.
+use Rattle.std.proofs.Common.{◌≡◌, ℕ, ◌<◌, false, List, [], ◌∷◌, ◌++◌, length, Option, Some, None, refl, sym, ap, ◌∙◌, arith, append_assoc, inl, inr}
 use Rattle.std.specs.Borrow.{Bor}
 use Rattle.std.specs.Prelude.{◌==◌, option_map, IfSome, MatchOption}
-use Rattle.std.proofs.lemmas.Bool.{cases_Bool}
+use Rattle.std.proofs.lemmas.Bool.{cases_Bool, false≢true}
 use Rattle.std.proofs.lemmas.List.{append-nil}
+use Rattle.std.specs.List.{list_any}
 use Rattle.kit.specs.Cuts.{split_once}
-use Rattle.mail_headers.specs.Ids.{angles_from, angles}
+use Rattle.kit.specs.White.{is_white}
+use Rattle.mail_headers.specs.Ids.{angles_from, angles, without_white}
 use Rattle.mail_headers.proofs.SplitLemmas.{put_before, split_once-here, split_once-further}
 
 -- the angles of bytes that were cut at a <
@@ -69,3 +71,11 @@ pub first_angle : (bytes outside opened : List ℕ) (found : Option (Bor (List �
 first_angle bytes outside opened None cut parts shorter len = angles-cut bytes outside opened cut ∙ ap (angle_and_others []) (sym parts)
 first_angle bytes outside opened (Some p) cut parts shorter len =
     (angles-cut bytes outside opened cut ∙ ap (angle_and_others []) (sym parts), omega arith)
+
+-- bytes without white space stay
+pub without_white-none : (bytes : List ℕ) → list_any is_white bytes ≡ false → without_white bytes ≡ bytes
+without_white-none [] none = refl
+without_white-none (b ∷ bs) none = elim (cases_Bool (is_white b)) [
+  | inl white ↦ absurd (false≢true (sym none ∙ rw white refl))
+  | inr other ↦ rw other (ap (λ (xs : List ℕ). b ∷ xs) (without_white-none bs (rw other at none)))
+]

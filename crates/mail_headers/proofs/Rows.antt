@@ -1,6 +1,6 @@
 -- Worked rows of the definitions, which compute.
 use Rattle.std.proofs.Common.{◌≡◌, ℕ, List, [], ◌∷◌, ◌++◌, codes, Some, None, refl}
-use Rattle.mail_headers.specs.declared.field.Field.{Field}
+use Rattle.mail_headers.specs.Fields.{Field}
 use Rattle.mail_headers.specs.Headers.{Head, header_of, first_of}
 use Rattle.mail_headers.specs.Ids.{ids}
 

@@ -4,7 +4,11 @@ use Rattle.std.specs.List.{cons_option, concat}
 use Rattle.kit.specs.Cuts.{split_once}
 use Rattle.kit.specs.Printing.{is_visible}
 use Rattle.kit.specs.White.{is_white, trim, trim_end}
-use Rattle.mail_headers.specs.declared.field.Field.{Field}
+
+-- a field: its name in the case in which it is written, and its body, unfolded and without outer white space
+pub record Field : Type 0 where
+  pub name : List ℕ
+  pub body : List ℕ
 
 -- What precedes the first colon of a line as a name, without white space at its end, and what follows it. A name is of
 -- visible characters, and none of them is a colon.

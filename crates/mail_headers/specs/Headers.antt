@@ -3,8 +3,7 @@ use Rattle.std.specs.Prelude.{ℕ, ◌+◌, Bool, not, ◌==◌, List, [], lengt
 use Rattle.std.specs.List.{concat}
 use Rattle.kit.specs.Letters.{same_name}
 use Rattle.kit.specs.Lines.{raw_lines, content}
-use Rattle.mail_headers.specs.declared.field.Field.{Field}
-use Rattle.mail_headers.specs.Fields.{fields_of}
+use Rattle.mail_headers.specs.Fields.{Field, fields_of}
 
 -- what contracts see of a `Header`: its fields in their order, and the offset in the mail where the body begins
 pub record Head : Type 0 where

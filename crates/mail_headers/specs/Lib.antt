@@ -2,3 +2,5 @@
 pub mod Headers
 pub mod Fields
 pub mod Ids
+-- What only proofs and private functions use.
+pub mod Layout

@@ -1,32 +1,13 @@
-//! Header fields, read from the contents of lines.
-ghost use Rattle.std.specs.Prelude.{◌≡◌, ◌++◌, IfOk, OnOk, map, option_map};
-ghost use Rattle.mail_headers.specs.Fields.{name_and_rest, continues, continuation, fields_of};
+//! Header fields, read from the lines of a mail.
+ghost use Rattle.std.specs.Prelude.{◌≡◌, ◌<◌, [], ◌∷◌, ◌++◌, MatchOption, OnOk, length, map, option_map};
+ghost use Rattle.std.specs.List.{cons_option};
+ghost use Rattle.kit.specs.Lines.{content, raw_lines};
 ghost use Rattle.kit.specs.White.{trim};
+ghost use Rattle.mail_headers.specs.Fields.{name_and_rest, continues, continuation, field_of};
+ghost use Rattle.mail_headers.specs.Layout.{IsFull, all_fields};
 
-use kit::{Bytes, Memory, is_visible, is_white, split_once, trim, trim_end};
-use std::alloc::Global;
-
-/// A field of a header (RFC 5322, section 2.2).
-#[derive(Debug, Drop)]
-pub struct Field {
-    /// One or more bytes from 33 to 126, none of them a colon, in the case in which they are written.
-    pub name: Bytes,
-    /// What follows the colon, unfolded and without outer white space: bytes of any kind and number.
-    pub body: Bytes,
-}
-
-/// The name of a field line, and what follows its colon. White space before the colon is obsolete
-/// (RFC 5322, section 4.5.8), and not of the name.
-fn name_and_rest(line: &[u8]) -> Option<(&[u8], &[u8])>
-    ensures { option_map (λ p. (p.0.now, p.1.now)) result ≡ name_and_rest line.now }
-{
-    let (before, rest) = split_once(line, b':')?;
-    let name = trim_end(before);
-    if !is_visible(name) {
-        return None;
-    }
-    Some((name, rest))
-}
+use crate::fields::Fields;
+use kit::{Memory, content, is_visible, is_white, split_line, split_once, trim, trim_end};
 
 /// Whether a line continues the one before it (RFC 5322, section 2.2.3).
 fn continues(line: &[u8]) -> bool
@@ -38,50 +19,85 @@ fn continues(line: &[u8]) -> bool
     }
 }
 
-/// Appends the lines that continue the line before these.
-fn push_continuation(body: &mut Vec<u8>, following: &[&[u8]]) -> Result<(), Memory>
-    ensures { OnOk result (body.new.items ≡ body.old.items ++ continuation (map (λ line. line.now) following.now)) }
+/// The name of a field line, and what follows its colon. White space before the colon is obsolete
+/// (RFC 5322, section 4.5.8), and not of the name. No name begins with white space, so a line that
+/// continues another is not searched for a colon.
+fn name_and_rest(line: &[u8]) -> Option<(&[u8], &[u8])>
+    ensures { option_map (λ p. (p.0.now, p.1.now)) result ≡ name_and_rest line.now }
 {
-    for line in following {
-        if !continues(line) {
-            break;
-        }
+    if continues(line) {
+        return None;
+    }
+    let (before, rest) = split_once(line, b':')?;
+    let name = trim_end(before);
+    if !is_visible(name) {
+        return None;
+    }
+    Some((name, rest))
+}
+
+/// The content of the first of the lines that follow a line, and what follows it: `None` where it does not
+/// continue that line.
+fn split_continuation(following: &[u8]) -> Option<(&[u8], &[u8])>
+    ensures { MatchOption result (continuation (map content (raw_lines following.now)) ≡ [])
+        (λ p. (continuation (map content (raw_lines following.now)) ≡ p.0.now ++ continuation (map content (raw_lines p.1.now)))
+        × (length p.1.now < length following.now)) }
+{
+    if !continues(following) {
+        return None;
+    }
+    let (raw, rest) = split_line(following)?;
+    Some((content(raw), rest))
+}
+
+/// Appends the lines that continue the line before these.
+fn push_continuation(body: &mut Vec<u8>, following: &[u8]) -> Result<(), Memory>
+    ensures { OnOk result (body.new.items ≡ body.old.items ++ continuation (map content (raw_lines following.now))) }
+{
+    let mut left = following;
+    while let Some((line, rest)) = split_continuation(left) {
         body.extend_from_slice(line)?;
+        left = rest;
     }
     Ok(())
 }
 
-/// The body of a field of which this is the rest of the first line, unfolded.
-fn unfolded(alloc: Global, rest: &[u8], following: &[&[u8]]) -> Result<Bytes, Memory>
-    ensures { IfOk result (λ body. body ≡ trim (rest.now ++ continuation (map (λ line. line.now) following.now))) }
+/// Puts a field after the last one: its name, and a body that begins with the rest of its first line. Most are
+/// of that line alone, and copied once; a longer body is made whole in `unfolded` first.
+fn push_field(
+    fields: &mut Fields,
+    unfolded: &mut Vec<u8>,
+    name: &[u8],
+    rest: &[u8],
+    following: &[u8],
+) -> Result<(), Memory>
+    requires { IsFull fields.old }
+    ensures full { OnOk result (IsFull fields.new) }
+    ensures fields { OnOk result (all_fields fields.new ≡ all_fields fields.old ++ record { name = name.now; body = trim (rest.now ++ continuation (map content (raw_lines following.now))) } ∷ []) }
 {
-    let mut body = Vec::from_slice(alloc, rest)?;
-    push_continuation(&mut body, following)?;
-    Bytes::from_slice(alloc, trim(&body))
+    if split_continuation(following).is_none() {
+        return fields.push(name, trim(rest));
+    }
+    unfolded.clear();
+    unfolded.extend_from_slice(rest)?;
+    push_continuation(unfolded, following)?;
+    fields.push(name, trim(unfolded))
 }
 
-/// The body of a field of which this is the rest of the first line. Most are of one line, which is copied once.
-fn body_of(alloc: Global, rest: &[u8], following: &[&[u8]]) -> Result<Bytes, Memory>
-    ensures { IfOk result (λ body. body ≡ trim (rest.now ++ continuation (map (λ line. line.now) following.now))) }
+/// Puts the field that begins in a line after the last one, if one does. The bytes that follow the line in the
+/// mail may continue it; `unfolded` is overwritten.
+pub fn push_line(
+    fields: &mut Fields,
+    unfolded: &mut Vec<u8>,
+    line: &[u8],
+    following: &[u8],
+) -> Result<(), Memory>
+    requires { IsFull fields.old }
+    ensures full { OnOk result (IsFull fields.new) }
+    ensures fields { OnOk result (all_fields fields.new ≡ all_fields fields.old ++ cons_option (field_of line.now (map content (raw_lines following.now))) []) }
 {
-    match following {
-        [next, ..] if continues(next) => unfolded(alloc, rest, following),
-        _ => Bytes::from_slice(alloc, trim(rest)),
+    match name_and_rest(line) {
+        Some((name, rest)) => push_field(fields, unfolded, name, rest, following),
+        None => Ok(()),
     }
-}
-
-/// The fields that begin in these lines, which are without their line ends. A line that begins no
-/// field is skipped, and the lines that continue it with it. Takes memory; `Err` only when it runs out.
-pub fn fields_of(alloc: Global, lines: &[&[u8]]) -> Result<Vec<Field>, Memory>
-    ensures { IfOk result (λ fields. fields.items ≡ fields_of (map (λ line. line.now) lines.now)) }
-{
-    let mut fields = Vec::new(alloc);
-    for (i, line) in lines.iter().enumerate() {
-        if let Some((name, rest)) = name_and_rest(line) {
-            let name = Bytes::from_slice(alloc, name)?;
-            let body = body_of(alloc, rest, &lines[i + 1..])?;
-            fields.push(Field { name, body })?;
-        }
-    }
-    Ok(fields)
 }

@@ -1,10 +1,13 @@
 //! The header of a mail.
-ghost use Rattle.std.specs.Prelude.{◌≡◌, ◌≤◌, IfOk, length, map};
+ghost use Rattle.std.specs.Prelude.{◌≡◌, ◌≤◌, ◌++◌, IfOk, OnOk, length};
 ghost use Rattle.kit.specs.Lines.{raw_lines};
+ghost use Rattle.mail_headers.specs.Fields.{fields_of};
 ghost use Rattle.mail_headers.specs.Headers.{header_lines, header_len, header_of};
+ghost use Rattle.mail_headers.specs.Layout.{IsFull, all_fields};
 
-use crate::field::{Field, fields_of};
-use kit::{Memory, content, same_name, split_line};
+use crate::field::push_line;
+use crate::fields::Fields;
+use kit::{Memory, content, split_line};
 use std::alloc::Global;
 use std::marker::Model;
 
@@ -12,16 +15,19 @@ use std::marker::Model;
 /// where the body begins.
 #[derive(Debug, Drop)]
 pub struct Header {
-    fields: Vec<Field>,
+    fields: Fields,
     body_at: usize,
 }
 
 impl Model for Header {
     ghost use Rattle.mail_headers.specs.Headers.{Head};
+    ghost use Rattle.mail_headers.specs.Layout.{IsFull, all_fields};
 
     ghost Value = { Head };
 
-    ghost view = { λ header. record { fields = header.fields.items; body_at = header.body_at } };
+    ghost view = { λ header. record { fields = all_fields header.fields; body_at = header.body_at } };
+
+    ghost invariant = { λ header. IsFull header.fields };
 }
 
 impl Header {
@@ -38,11 +44,7 @@ impl Header {
         ensures body { option_copied result ≡ first_of self.now name.now }
         ensures found { IsSome result ↔ Any (λ field. IsTrue (same_name field.name name.now)) self.now.fields }
     {
-        let field = self
-            .fields
-            .iter()
-            .find(|field| same_name(field.name.bytes(), name))?;
-        Some(field.body.bytes())
+        self.fields.first(name)
     }
 
     /// The body of the first field of that name, as `first` gives it, or an empty one where the header has
@@ -57,7 +59,7 @@ impl Header {
     pub fn len(&self) -> usize
         ensures { result ≡ length self.now.fields }
     {
-        self.fields.len()
+        self.fields.lengths.len()
     }
 
     /// Where the body begins, as an offset from the beginning of the mail: after the first empty line,
@@ -69,13 +71,31 @@ impl Header {
     }
 }
 
-/// The contents of the header's lines, and the offset where the body begins.
-fn header_lines(alloc: Global, mail: &[u8]) -> Result<(Vec<&[u8]>, usize), Memory>
-    ensures lines { IfOk result (λ p. map (λ line. line.now) p.0.items ≡ header_lines (raw_lines mail.now)) }
-    ensures offset { IfOk result (λ p. p.1 ≡ header_len (raw_lines mail.now)) }
-    ensures within { IfOk result (λ p. p.1 ≤ length mail.now) }
+/// The number of the header's lines, and the offset where the body begins.
+fn extent(mail: &[u8]) -> (usize, usize)
+    ensures offset { result.1 ≡ header_len (raw_lines mail.now) }
+    ensures within { result.1 ≤ length mail.now }
 {
-    let mut found = Vec::new(alloc);
+    let mut lines = 0;
+    let mut left = mail;
+    while let Some((raw, rest)) = split_line(left) {
+        left = rest;
+        if content(raw).is_empty() {
+            break;
+        }
+        lines += 1;
+    }
+    (lines, mail.len() - left.len())
+}
+
+/// Appends the fields that begin in the header's lines. A line that begins no field is skipped, and the
+/// lines that continue it with it.
+fn push_fields(alloc: Global, fields: &mut Fields, mail: &[u8]) -> Result<(), Memory>
+    requires { IsFull fields.old }
+    ensures full { OnOk result (IsFull fields.new) }
+    ensures fields { OnOk result (all_fields fields.new ≡ all_fields fields.old ++ fields_of (header_lines (raw_lines mail.now))) }
+{
+    let mut unfolded = Vec::new(alloc);
     let mut left = mail;
     while let Some((raw, rest)) = split_line(left) {
         left = rest;
@@ -83,20 +103,23 @@ fn header_lines(alloc: Global, mail: &[u8]) -> Result<(Vec<&[u8]>, usize), Memor
         if line.is_empty() {
             break;
         }
-        found.push(line)?;
+        push_line(fields, &mut unfolded, line, rest)?;
     }
-    Ok((found, mail.len() - left.len()))
+    Ok(())
 }
 
 /// Reads the header of a mail: the lines before the first empty one, or all (RFC 5322, sections 2.1,
 /// 2.2 and 4.5). A field begins in a line of a name, white space or none, and a colon; lines that begin
 /// with white space continue it. Every other line is skipped, with those that continue it. Any bytes are
-/// a mail. Takes memory for a copy of each name and body; `Err` only when it runs out.
+/// a mail. Takes memory for the bytes of these lines, for two numbers for each line, and meanwhile for the
+/// longest body of more than one line; `Err` only when it runs out.
 pub fn read_header(alloc: Global, mail: &[u8]) -> Result<Header, Memory>
     ensures read { IfOk result (λ header. header ≡ header_of mail.now) }
     ensures within { IfOk result (λ header. header.body_at ≤ length mail.now) }
 {
-    let (lines, body_at) = header_lines(alloc, mail)?;
-    let fields = fields_of(alloc, &lines)?;
+    // No line begins more than one field, and no field has more bytes than its lines.
+    let (lines, body_at) = extent(mail);
+    let mut fields = Fields::with_capacity(alloc, lines, body_at)?;
+    push_fields(alloc, &mut fields, mail)?;
     Ok(Header { fields, body_at })
 }

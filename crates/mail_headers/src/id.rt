@@ -1,6 +1,8 @@
 //! The message ids in the body of a field.
 ghost use Rattle.std.specs.Prelude.{◌≡◌, ◌<◌, ◌∷◌, [], ◌++◌, IfOk, OnOk, MatchOption, length, map, filter};
+ghost use Rattle.std.specs.List.{list_any};
 ghost use Rattle.kit.specs.Ids.{is_id};
+ghost use Rattle.kit.specs.White.{is_white};
 ghost use Rattle.mail_headers.specs.Ids.{angles, without_white, at_words, ids};
 
 use kit::{Id, Memory, is_white, split_once};
@@ -36,34 +38,44 @@ fn push_id(alloc: Global, found: &mut Vec<Id>, bytes: &[u8]) -> Result<(), Memor
     Ok(())
 }
 
+fn has_white(bytes: &[u8]) -> bool
+    ensures { result ≡ list_any is_white bytes.now }
+{
+    bytes.iter().any(|b| is_white(*b))
+}
+
+/// Appends the id between angle brackets, if there is one. Few hold white space, and only those are copied.
+fn push_angle(alloc: Global, found: &mut Vec<Id>, inside: &[u8]) -> Result<(), Memory>
+    ensures { OnOk result (found.new.items ≡ found.old.items ++ filter is_id (without_white inside.now ∷ [])) }
+{
+    if has_white(inside) {
+        push_id(alloc, found, &without_white(alloc, inside)?)
+    } else {
+        push_id(alloc, found, inside)
+    }
+}
+
 fn angle_ids(alloc: Global, body: &[u8]) -> Result<Vec<Id>, Memory>
     ensures { IfOk result (λ found. found.items ≡ filter is_id (map without_white (angles body.now))) }
 {
     let mut found = Vec::new(alloc);
     let mut rest = body;
     while let Some((inside, after)) = first_angle(rest) {
-        push_id(alloc, &mut found, &without_white(alloc, inside)?)?;
+        push_angle(alloc, &mut found, inside)?;
         rest = after;
     }
     Ok(found)
 }
 
-/// The words between white space and commas that hold an `@`.
-fn at_words(alloc: Global, body: &[u8]) -> Result<Vec<&[u8]>, Memory>
-    ensures { IfOk result (λ words. map (λ word. word.now) words.items ≡ at_words body.now) }
-{
-    let words = body
-        .split(|b| is_white(*b) || *b == b',')
-        .filter(|word| word.contains(&b'@'))
-        .collect(alloc)?;
-    Ok(words)
-}
-
+/// The ids among the words between white space and commas that hold an `@`.
 fn word_ids(alloc: Global, body: &[u8]) -> Result<Vec<Id>, Memory>
     ensures { IfOk result (λ found. found.items ≡ filter is_id (at_words body.now)) }
 {
+    let words = body
+        .split(|b| is_white(*b) || *b == b',')
+        .filter(|word| word.contains(&b'@'));
     let mut found = Vec::new(alloc);
-    for word in &at_words(alloc, body)? {
+    for word in words {
         push_id(alloc, &mut found, word)?;
     }
     Ok(found)

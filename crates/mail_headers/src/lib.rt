@@ -2,6 +2,7 @@
 #![tactic(auto)]
 
 mod field;
+mod fields;
 mod header;
 mod id;
 

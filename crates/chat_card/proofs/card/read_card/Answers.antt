@@ -6,9 +6,9 @@ use Rattle.chat_card.specs.Cards.{accepted, card_from, card_of, card_with}
 use Rattle.chat_card.specs.declared.fault.CardFault.TheVariants as fault
 use Rattle.chat_card.proofs.CardLemmas.{answered, err-self, ok-self}
 use Rattle.chat_card.proofs.card.read_card.Goals as goal
-use Rattle.chat_card.proofs.card.read_card.Goals.{After-drop-header-inside-2}
+use Rattle.chat_card.proofs.card.read_card.Goals.{After-drop-header-inside-3}
 
-whole : (c : After-drop-header-inside-2) → card_of c.args.uid c.args.mail.now ≡ c.accepted.result
+whole : (c : After-drop-header-inside-3) → card_of c.args.uid c.args.mail.now ≡ c.accepted.result
 whole c =
     let uid = c.args.uid in
     let mail = c.args.mail.now in
