@@ -5,7 +5,7 @@ use Rattle.std.specs.List.{filter_map, join_with_byte}
 use Rattle.card_type.specs.declared.card.Attachment.{Attachment}
 use Rattle.card_type.specs.declared.card.Update.{Update}
 use Rattle.chat_card.specs.declared.contents.Contents.{Contents}
-use Rattle.chat_card.specs.declared.part.Part.{Part}
+use Rattle.chat_card.specs.Parts.{Part}
 use Rattle.chat_card.specs.Contents.{contents_in}
 use Rattle.chat_card.specs.Files.{attached, attachment, has_app, updates_in}
 use Rattle.chat_card.specs.Receipts.{receipt_of}

@@ -1,14 +1,15 @@
 -- What is kept of parts that are read one after the other.
-use Rattle.std.proofs.Common.{◌≡◌, ℕ, ◌≤◌, Bool, true, false, List, [], ◌∷◌, ◌++◌, Option, Some, None, length, map, refl, sym, ap, ◌∙◌, arith, append_assoc}
+use Rattle.std.proofs.Common.{◌≡◌, ℕ, ◌≤◌, Bool, true, false, List, [], ◌∷◌, ◌++◌, Option, Some, None, map, refl, subst, sym, ap, ◌∙◌, arith, append_assoc}
 use Rattle.std.specs.Prelude.{nat_lt, ◌||◌, option_map, option_to_list, take_while}
 use Rattle.std.specs.List.{cons_option, list_any}
 use Rattle.std.proofs.Math.Bool.{or_assoc}
 use Rattle.std.proofs.lemmas.Bool.{lt-ltb, ltb-true}
-use Rattle.std.proofs.lemmas.List.{append-nil, map-append, nil_from_length}
+use Rattle.std.proofs.lemmas.List.{append-nil, map-append}
 use Rattle.std.proofs.lemmas.List.Sums.{take_while-cons}
+use Rattle.mime_parts.specs.declared.part.PartNode.{PartNode}
 use Rattle.chat_card.specs.declared.kept.Parent.{Parent}
 use Rattle.chat_card.specs.declared.leaf.Kept as Borrowed
-use Rattle.chat_card.specs.declared.part.Part.{Part}
+use Rattle.chat_card.specs.Parts.{Part}
 use Rattle.chat_card.specs.declared.way.Way.TheVariants.{Together}
 use Rattle.chat_card.specs.Shown.{Forest, Nothing, Then, Kept, deeper, following, forest, is_text, shows_text}
 use Rattle.chat_card.specs.Views.{kept as view}
@@ -107,25 +108,29 @@ kept-pushed found new (Some x) own_of now next all is pushed step so_far =
     ∙ ap (λ (xs : List Kept). map view found ++ xs) (ap (λ (o : Option Kept). cons_option o next) is ∙ sym step)
     ∙ so_far
 
-pub kept-more : (parents new : List Parent) (left rest : List Part) (p : Part) (below whole : Bool) (found more : List Borrowed.Kept) (r : Option Borrowed.Kept) (all : List Kept)
-    → left ≡ p ∷ rest
-    → below ≡ list_any (λ q. is_text q.node) (take_while (λ q. nat_lt p.node.depth q.node.depth) rest)
-    → whole ≡ is_whole (way_of (closed p.node.depth parents)) (is_text p.node || below)
-    → new ≡ entered p.node below parents
+pub kept-more : (parents new : List Parent) (left rest : List Part) (p : Part) (n : PartNode) (below whole : Bool) (found more : List Borrowed.Kept) (r : Option Borrowed.Kept) (all : List Kept)
+    → left ≡ p ∷ rest → n ≡ p.node
+    → below ≡ list_any (λ q. is_text q.node) (take_while (λ q. nat_lt n.depth q.node.depth) rest)
+    → whole ≡ is_whole (way_of (closed n.depth parents)) (is_text n || below)
+    → new ≡ entered n below parents
     → option_map view r ≡ own whole p → more ≡ found ++ option_to_list r
     → map view found ++ spread parents (forest left) ≡ all → map view more ++ spread new (forest rest) ≡ all
-kept-more parents new left rest p below whole found more r all first shows is entering gives pushed so_far =
+kept-more parents new left rest p n below whole found more r all first node shows is entering gives pushed so_far =
     kept-pushed found more r (own whole p) (spread parents (forest left)) (spread new (forest rest)) all gives pushed
-    (ap (λ (ps : List Part). spread parents (forest ps)) first ∙ kept-step parents new p rest below whole shows is entering) so_far
+    (ap (λ (ps : List Part). spread parents (forest ps)) first
+    ∙ kept-step parents new p rest below whole
+    (subst (λ (m : PartNode). below ≡ list_any (λ q. is_text q.node) (take_while (λ q. nat_lt m.depth q.node.depth) rest)) node shows)
+    (subst (λ (m : PartNode). whole ≡ is_whole (way_of (closed m.depth parents)) (is_text m || below)) node is)
+    (subst (λ (m : PartNode). new ≡ entered m below parents) node entering)) so_far
 
 spread-nothing : (parents : List Parent) → spread parents Nothing ≡ []
 spread-nothing [] = refl
 spread-nothing (p ∷ ps) = spread-nothing ps
 
 -- no part is left
-pub kept-all : (parents : List Parent) (left : List Part) (found all : List Kept) → length left ≡ 0
+pub kept-all : (parents : List Parent) (left : List Part) (found all : List Kept) → left ≡ []
     → found ++ spread parents (forest left) ≡ all → found ≡ all
 kept-all parents left found all none so_far =
     sym (append-nil found)
-    ∙ ap (λ (xs : List Kept). found ++ xs) (sym (ap (λ (ps : List Part). spread parents (forest ps)) (nil_from_length left none) ∙ spread-nothing parents))
+    ∙ ap (λ (xs : List Kept). found ++ xs) (sym (ap (λ (ps : List Part). spread parents (forest ps)) none ∙ spread-nothing parents))
     ∙ so_far

@@ -5,7 +5,7 @@ use Rattle.std.specs.List.{cons_option, filter_map, list_any}
 use Rattle.std.proofs.lemmas.List.{map-append}
 use Rattle.std.proofs.lemmas.List.Elements.{filter-append, filter_map-append}
 use Rattle.std.proofs.lemmas.List.Folds.{list_any-append}
-use Rattle.chat_card.specs.declared.part.Part.{Part}
+use Rattle.chat_card.specs.Parts.{Part}
 use Rattle.chat_card.specs.declared.way.Way.{Way}
 use Rattle.chat_card.specs.declared.way.Way.TheVariants.{Together}
 use Rattle.chat_card.specs.Leaves.{KeepsLeaves, KeepsOthers, is_leaf, is_other, part_of}

@@ -3,8 +3,7 @@ use Rattle.std.proofs.Common.{◌≡◌, ℕ, List, [], ◌∷◌, ◌++◌, map
 use Rattle.std.specs.Prelude.{reverse}
 use Rattle.std.proofs.lemmas.List.{map-append, reverse-append}
 use Rattle.mime_parts.specs.declared.part.PartNode.{PartNode}
-use Rattle.chat_card.specs.declared.part.Part.{Part}
-use Rattle.chat_card.specs.Parts.{content_of, part}
+use Rattle.chat_card.specs.Parts.{Part, content_of, part}
 
 -- the last node becomes a part
 pub part-popped : (body content : List ℕ) (nodes old : List PartNode) (node : PartNode) (found new all : List Part)

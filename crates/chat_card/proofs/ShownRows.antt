@@ -6,9 +6,8 @@ use Rattle.std.specs.Fmt.{digits}
 use Rattle.std.specs.List.{concat}
 use Rattle.card_type.specs.declared.card.Attachment.{Attachment}
 use Rattle.mail_headers.specs.Headers.{header_of}
-use Rattle.chat_card.specs.declared.part.Part.{Part}
 use Rattle.chat_card.specs.Files.{attachment}
-use Rattle.chat_card.specs.Parts.{parts_of}
+use Rattle.chat_card.specs.Parts.{Part, parts_of}
 use Rattle.chat_card.specs.Shown.{files, shown}
 
 abbrev pub in_mail : List ℕ → List Part

@@ -2,7 +2,7 @@
 use Rattle.std.proofs.Common.{◌≡◌, Bool, true, false, List, ◌++◌, Option, refl}
 use Rattle.std.specs.Prelude.{◌||◌, if◌then◌else◌}
 use Rattle.std.specs.List.{cons_option}
-use Rattle.chat_card.specs.declared.part.Part.{Part}
+use Rattle.chat_card.specs.Parts.{Part}
 use Rattle.chat_card.specs.declared.way.Way.TheVariants.{Together, Choice, Beside}
 use Rattle.chat_card.specs.Shown.{Forest, Nothing, Then, Kept, beside, chosen, is_choice, is_text, kept, leaf_beside, leaf_of, shows_text}
 use Rattle.chat_card.specs.Walks.{kept_by, own, way_after, way_within}

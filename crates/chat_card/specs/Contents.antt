@@ -2,9 +2,8 @@
 use Rattle.std.specs.Prelude.{ℕ, List, [], map, unwrap_or}
 use Rattle.mail_headers.specs.Headers.{Head}
 use Rattle.chat_card.specs.declared.contents.Contents.{Contents}
-use Rattle.chat_card.specs.declared.part.Part.{Part}
 use Rattle.chat_card.specs.Files.{attached, attachment, has_app, updates_in}
-use Rattle.chat_card.specs.Parts.{parts_of}
+use Rattle.chat_card.specs.Parts.{Part, parts_of}
 use Rattle.chat_card.specs.Receipts.{receipt_of}
 use Rattle.chat_card.specs.Shown.{files, shown}
 

@@ -8,7 +8,7 @@ use Rattle.card_type.specs.declared.card.Attachment.{Attachment}
 use Rattle.card_type.specs.declared.card.Update.{Update}
 use Rattle.mime_fields.specs.Kinds.{Kind}
 use Rattle.part_read.specs.Updates.{updates}
-use Rattle.chat_card.specs.declared.part.Part.{Part}
+use Rattle.chat_card.specs.Parts.{Part}
 
 -- the size of its decoded content; of a multipart that was not opened, of its undecoded content
 abbrev pub size_of : Part → ℕ

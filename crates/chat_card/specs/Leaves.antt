@@ -1,7 +1,7 @@
 -- What is kept of the leaves of a mail, as laws of the list of its parts.
 use Rattle.std.specs.Prelude.{◌≡◌, Bool, false, ◌&&◌, not, List, filter, map}
 use Rattle.std.specs.List.{list_any}
-use Rattle.chat_card.specs.declared.part.Part.{Part}
+use Rattle.chat_card.specs.Parts.{Part}
 use Rattle.chat_card.specs.Shown.{Kept, Text, File, files, is_alternative, is_any_text, kept_of}
 
 abbrev pub is_leaf : Part → Bool

@@ -6,7 +6,11 @@ use Rattle.mime_fields.specs.Kinds.{Kind, param_of}
 use Rattle.mime_parts.specs.Multiparts.{bytes_at}
 use Rattle.mime_parts.specs.Trees.{tree}
 use Rattle.transfer_code.specs.Encodings.{decode_body}
-use Rattle.chat_card.specs.declared.part.Part.{Part}
+
+-- what contracts see of a `Part`: its node, and its content, decoded
+pub record Part : Type 0 where
+  pub node : PartNode
+  pub content : List ℕ
 
 -- what a node holds in a body, decoded; nothing where its parts are in the tree
 abbrev pub content_of : List ℕ → PartNode → List ℕ

@@ -5,8 +5,7 @@ use Rattle.kit.specs.Options.{◌>>=◌}
 use Rattle.mime_parts.specs.declared.part.PartNode.{PartNode}
 use Rattle.mime_parts.specs.Trees.{is_kind}
 use Rattle.part_read.specs.Receipts.{receipt}
-use Rattle.chat_card.specs.declared.part.Part.{Part}
-use Rattle.chat_card.specs.Parts.{param}
+use Rattle.chat_card.specs.Parts.{Part, param}
 
 -- a report of what became of a mail, whose parts are in the tree
 abbrev pub is_report : PartNode → Bool

@@ -8,8 +8,7 @@ use Rattle.flowed_text.specs.Flowed.{unflow, user_text}
 use Rattle.mime_parts.specs.declared.part.PartNode.{PartNode}
 use Rattle.mime_fields.specs.Kinds.{Kind}
 use Rattle.mime_parts.specs.Trees.{is_kind}
-use Rattle.chat_card.specs.declared.part.Part.{Part}
-use Rattle.chat_card.specs.Parts.{param}
+use Rattle.chat_card.specs.Parts.{Part, param}
 
 -- ---- the parts as trees
 

@@ -4,7 +4,7 @@ use Rattle.std.specs.List.{cons_option}
 use Rattle.mime_fields.specs.Kinds.{Kind}
 use Rattle.mime_parts.specs.declared.part.PartNode.{PartNode}
 use Rattle.chat_card.specs.declared.kept.Parent.{Parent}
-use Rattle.chat_card.specs.declared.part.Part.{Part}
+use Rattle.chat_card.specs.Parts.{Part}
 use Rattle.chat_card.specs.declared.way.Way.{Way}
 use Rattle.chat_card.specs.declared.way.Way.TheVariants.{Together, Choice, Beside}
 use Rattle.chat_card.specs.Shown.{Forest, Nothing, Then, Kept, is_alternative, is_text, leaf_beside, leaf_of, shows_text}

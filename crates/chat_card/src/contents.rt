@@ -39,7 +39,7 @@ fn accepted(alloc: Global, file: &Part) -> Result<Option<Items<Update>>, Memory>
     ensures value { IfOk result (λ read. read ≡ result_ok (updates file.now.content)) }
     ensures rules { IfOk result (λ read. IsTrue (where_some (list_all is_update) read)) }
 {
-    match read_updates(alloc, file.content.bytes()) {
+    match read_updates(alloc, &file.content(alloc)?) {
         Ok(updates) => Ok(Some(updates)),
         Err(UpdateFault::Memory) => Err(Memory),
         Err(UpdateFault::NoJson | UpdateFault::NoList) => Ok(None),
@@ -47,7 +47,7 @@ fn accepted(alloc: Global, file: &Part) -> Result<Option<Items<Update>>, Memory>
 }
 
 /// Takes the file of updates out of the files, if there is one and they are accepted, and returns the updates.
-fn take_updates(alloc: Global, files: &mut Vec<&Part>) -> Result<Items<Update>, Memory>
+fn take_updates(alloc: Global, files: &mut Vec<&Part<'_>>) -> Result<Items<Update>, Memory>
     ensures updates { IfOk result (λ updates. updates ≡ unwrap_or (updates_in (map (λ f. f.now) files.old.items)) []) }
     ensures rules { IfOk result (λ updates. IsTrue (list_all is_update updates)) }
     ensures files { OnOk result (map (λ f. f.now) files.new.items ≡ attached (map (λ f. f.now) files.old.items)) }

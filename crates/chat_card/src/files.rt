@@ -17,7 +17,7 @@ use std::alloc::Global;
 const APP_END: &[u8] = b".xdc";
 
 /// The parts that are files.
-pub fn files<'a>(alloc: Global, parts: &[Kept<'a>]) -> Result<Vec<&'a Part>, Memory>
+pub fn files<'p, 'a>(alloc: Global, parts: &[Kept<'p, 'a>]) -> Result<Vec<&'p Part<'a>>, Memory>
     ensures { IfOk result (λ files. map (λ f. f.now) files.items ≡ filter_map file_of (map kept parts.now)) }
 {
     let mut files = Vec::new(alloc);
@@ -80,14 +80,14 @@ fn kind_text(alloc: Global, kind: &ContentType) -> Result<Text, Memory>
     Ok(Text::from(text))
 }
 
-fn size_of(file: &Part) -> u64
-    ensures { result ≡ size_of file.now }
+fn size_of(alloc: Global, file: &Part) -> Result<u64, Memory>
+    ensures { IfOk result (λ size. size ≡ size_of file.now) }
 {
     let node = &file.node;
     if node.kind.top.bytes() == b"multipart".as_slice() {
-        node.end.saturating_sub(node.start) as u64
+        Ok(node.end.saturating_sub(node.start) as u64)
     } else {
-        file.content.bytes().len() as u64
+        Ok(file.content_len(alloc)? as u64)
     }
 }
 
@@ -97,7 +97,7 @@ fn attachment(alloc: Global, file: &Part) -> Result<Attachment, Memory>
     Ok(Attachment {
         kind: kind_text(alloc, &file.node.kind)?,
         name: file.node.name.copy()?,
-        size: size_of(file),
+        size: size_of(alloc, file)?,
     })
 }
 

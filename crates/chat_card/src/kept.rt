@@ -74,19 +74,17 @@ fn enter(parents: &mut Vec<Parent>, node: &PartNode, below: bool) -> Result<bool
 }
 
 /// What is kept of parts in preorder.
-pub fn kept_of(alloc: Global, parts: &[Part]) -> Result<Vec<Kept<'_>>, Memory>
+pub fn kept_of<'p, 'a>(alloc: Global, parts: &'p [Part<'a>]) -> Result<Vec<Kept<'p, 'a>>, Memory>
     ensures { IfOk result (λ found. map kept found.items ≡ kept_of parts.now) }
 {
     let mut found = Vec::new(alloc);
     let mut parents = Vec::new(alloc);
-    let mut left = parts;
-    while let Some((part, more)) = left.split_first() {
-        let below = shows_text(part.node.depth, more);
+    for (i, part) in parts.iter().enumerate() {
+        let below = shows_text(part.node.depth, &parts[i + 1..]);
         let whole = enter(&mut parents, &part.node, below)?;
         if let Some(kept) = own(whole, part) {
             found.push(kept)?;
         }
-        left = more;
     }
     Ok(found)
 }

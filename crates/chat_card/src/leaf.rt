@@ -8,11 +8,11 @@ use mime_parts::{PartNode, is_kind};
 
 /// A part that is kept.
 #[derive(Clone, Copy, Debug)]
-pub enum Kept<'a> {
+pub enum Kept<'p, 'a> {
     /// Its content is shown as a text.
-    Text(&'a Part),
+    Text(&'p Part<'a>),
     /// It is a file.
-    File(&'a Part),
+    File(&'p Part<'a>),
 }
 
 /// Whether a part has no file name, and its disposition does not say that it is an attachment (RFC 2183).
@@ -37,7 +37,7 @@ fn is_any_text(node: &PartNode) -> bool
 }
 
 /// What a leaf is.
-pub fn leaf_of(part: &Part) -> Option<Kept<'_>>
+pub fn leaf_of<'p, 'a>(part: &'p Part<'a>) -> Option<Kept<'p, 'a>>
     ensures { option_map kept result ≡ leaf_of part.now }
 {
     if !part.node.leaf {
@@ -50,7 +50,7 @@ pub fn leaf_of(part: &Part) -> Option<Kept<'_>>
 }
 
 /// What a leaf is beside an alternative that was chosen.
-pub fn leaf_beside(part: &Part) -> Option<Kept<'_>>
+pub fn leaf_beside<'p, 'a>(part: &'p Part<'a>) -> Option<Kept<'p, 'a>>
     ensures { option_map kept result ≡ leaf_beside part.now }
 {
     if !part.node.leaf || is_any_text(&part.node) {

@@ -28,14 +28,14 @@ fn is_notification(part: &Part) -> bool
     part.node.depth == 1 && is_kind(b"message", b"disposition-notification", &part.node.kind)
 }
 
-fn notification(parts: &[Part]) -> Option<&Part>
+fn notification<'p, 'a>(parts: &'p [Part<'a>]) -> Option<&'p Part<'a>>
     ensures { option_copied result ≡ find is_notification parts.now }
 {
     parts.iter().find(|part| is_notification(part))
 }
 
 /// The first notification of a mail of these parts, if that is such a report.
-fn notification_of(parts: &[Part]) -> Option<&Part>
+fn notification_of<'p, 'a>(parts: &'p [Part<'a>]) -> Option<&'p Part<'a>>
     ensures { option_copied result ≡ notification_of parts.now }
 {
     let (root, parts) = parts.split_first()?;
@@ -51,7 +51,7 @@ pub fn receipt_of(alloc: Global, parts: &[Part]) -> Result<Option<Id>, Memory>
     ensures { IfOk result (λ receipt. receipt ≡ receipt_of parts.now) }
 {
     match notification_of(parts) {
-        Some(part) => read_receipt(alloc, part.content.bytes()),
+        Some(part) => read_receipt(alloc, &part.content(alloc)?),
         None => Ok(None),
     }
 }

@@ -16,7 +16,7 @@ fn text_in(alloc: Global, part: &Part) -> Result<Text, Memory>
 {
     let kind = &part.node.kind;
     let charset = charset_of(param(kind, b"charset"));
-    let text = to_text(alloc, charset, part.content.bytes())?;
+    let text = to_text(alloc, charset, &part.content(alloc)?)?;
     if same_name(param(kind, b"format"), b"flowed") {
         let delsp = same_name(param(kind, b"delsp"), b"yes");
         return user_text(alloc, &unflow(alloc, &text, delsp)?);
@@ -25,7 +25,7 @@ fn text_in(alloc: Global, part: &Part) -> Result<Text, Memory>
 }
 
 /// The text of parts that are kept: that of each that is a text, with an LF between each two.
-pub fn shown_text(alloc: Global, parts: &[Kept<'_>]) -> Result<Text, Memory>
+pub fn shown_text(alloc: Global, parts: &[Kept<'_, '_>]) -> Result<Text, Memory>
     ensures { IfOk result (λ text. text ≡ join_with_byte 10 (filter_map text_of (map kept parts.now))) }
 {
     let mut shown = String::new(alloc);

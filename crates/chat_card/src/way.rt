@@ -67,7 +67,7 @@ pub fn way_within(whole: bool, kind: &ContentType, has_text: bool) -> Way
 }
 
 /// What is kept of a part itself, that is kept whole or is not.
-pub fn own(whole: bool, part: &Part) -> Option<Kept<'_>>
+pub fn own<'p, 'a>(whole: bool, part: &'p Part<'a>) -> Option<Kept<'p, 'a>>
     ensures { option_map kept result ≡ own whole part.now }
 {
     if whole {

@@ -1,16 +1,16 @@
 -- Sextets regrouped by eight bits, and the groups of four symbols that the crate base64 decodes.
 use Rattle.std.proofs.Common.{◌≡◌, ℕ, zero, suc, ◌+◌, ◌-◌, ◌*◌, ◌/◌, ◌%◌, ◌<◌, ◌≤◌, Bool, true, false, not, eqb, List, [], ◌∷◌, ◌++◌, length, get_or, take, map, filter, Option, Some, None, refl, sym, ap, ◌∙◌, arith, inl, inr}
-use Rattle.std.specs.Prelude.{take_while, ◌==◌, position, filter_map, flat_map, slice_index, is_some}
-use Rattle.std.specs.List.{AllByRecursion, position_or_len, list_any}
+use Rattle.std.specs.Prelude.{position, filter_map, flat_map, slice_index, is_some}
+use Rattle.std.specs.List.{AllByRecursion, count_by, position_or_len, list_any}
 use Rattle.std.proofs.lemmas.List.{append-nil, length-map}
 use Rattle.std.proofs.lemmas.Bool.{cases_lt, cases_eq, lt-ltb, le-ltb, ne_eqb, eqb-true, not-true}
-use Rattle.std.proofs.lemmas.List.Sums.{prefix_len_passes, passes_at_first}
+use Rattle.std.proofs.lemmas.List.Sums.{length-filter, passes_at_first, prefix_len_passes}
 use Rattle.std.proofs.lemmas.List.Folds.{list_any_at, list_any_none}
 use Rattle.base64.specs.Engines.{standard_no_pad}
 use Rattle.base64.specs.GeneralPurpose.{encode_of, IsBytes}
 use Rattle.base64.specs.Rfc4648.{encode_symbols}
 use Rattle.base64.specs.Decode.{decode_group}
-use Rattle.transfer_code.specs.Base64.{alphabet, sextet_of, sextets, six_bits, octets, decode_base64, is_symbol, completed}
+use Rattle.transfer_code.specs.Base64.{alphabet, sextet_of, sextets, six_bits, octets, decode_base64, is_symbol, completed, before_padding}
 
 abbrev pub AreSextets : List ℕ → Type 0
 AreSextets m = AllByRecursion (λ i. i < 64) m
@@ -41,7 +41,7 @@ filled (a ∷ b ∷ c ∷ d ∷ m) = a ∷ b ∷ c ∷ d ∷ filled m
 
 -- how many octets so many sextets give
 abbrev pub whole : ℕ → ℕ
-whole n = n - (n + 3) / 4
+whole n = 6 * n / 8
 
 -- by eight bits the sextets give the first of the octets of the filled groups
 pub octets-six_bits : (m : List ℕ) → AreSextets m → octets (flat_map six_bits m) ≡ take (whole (length m)) (groups (filled m))
@@ -52,6 +52,13 @@ octets-six_bits (a ∷ b ∷ c ∷ []) h = rw (first_octet a b h.0 h.1.0, second
 octets-six_bits (a ∷ b ∷ c ∷ d ∷ m) h =
     let more : whole (length (a ∷ b ∷ c ∷ d ∷ m)) ≡ suc (suc (suc (whole (length m)))) = omega arith in
     rw (more, first_octet a b h.0 h.1.0, second_octet b c h.1.0 h.1.1.0, third_octet c d h.1.1.0 h.1.1.1.0, octets-six_bits m h.1.1.1.1) refl
+
+length-octets : (m : List ℕ) → length (octets (flat_map six_bits m)) ≡ whole (length m)
+length-octets [] = refl
+length-octets (a ∷ []) = refl
+length-octets (a ∷ b ∷ []) = refl
+length-octets (a ∷ b ∷ c ∷ []) = refl
+length-octets (a ∷ b ∷ c ∷ d ∷ m) = omega (arith, length-octets m)
 
 -- ---- symbols
 
@@ -200,8 +207,15 @@ completed-filter bs =
     ∙ sym (append-nil (encode_symbols alphabet (octets_of bs)) ∙ encode_symbols-groups (filled m) (AreGroups-filled m kept.1))
 
 -- so the first of those octets are what the text decodes to
-pub octets_of_text : (bytes : List ℕ) → take (whole (length (filter is_symbol (take_while (λ b. not (b == 61)) bytes)))) (octets_of (take_while (λ b. not (b == 61)) bytes)) ≡ decode_base64 bytes
+pub octets_of_text : (bytes : List ℕ) → take (whole (length (filter is_symbol (before_padding bytes)))) (octets_of (before_padding bytes)) ≡ decode_base64 bytes
 octets_of_text bytes =
     let m = sextets bytes in
-    let kept = filter-is_symbol (take_while (λ b. not (b == 61)) bytes) in
+    let kept = filter-is_symbol (before_padding bytes) in
     ap (λ n. take (whole n) (groups (filled m))) (ap length kept.0 ∙ length-map m symbol) ∙ sym (octets-six_bits m kept.1)
+
+-- and this is how many
+pub length-decode_base64 : (bytes : List ℕ) → length (decode_base64 bytes) ≡ whole (count_by is_symbol (before_padding bytes))
+length-decode_base64 bytes =
+    let m = sextets bytes in
+    let kept = filter-is_symbol (before_padding bytes) in
+    length-octets m ∙ ap whole (sym (length-map m symbol) ∙ ap length (sym kept.0) ∙ length-filter is_symbol (before_padding bytes))

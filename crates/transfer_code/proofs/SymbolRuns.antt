@@ -1,80 +1,92 @@
--- The table of symbols, and the runs of symbols before the first `=`.
-use Rattle.std.proofs.Common.{◌≡◌, ◌≢◌, ℕ, suc, ◌+◌, ◌<◌, ◌==◌, not, true, false, get_or, List, [], ◌∷◌, ◌++◌, length, take, drop, map, Some, None, refl, subst, sym, ap, ◌∙◌, arith, inl, inr}
-use Rattle.std.specs.Prelude.{filter, position, slice_index, take_while}
-use Rattle.std.specs.List.{position_or_len, range_with_len}
-use Rattle.std.proofs.lemmas.Bool.{cases_Bool, cases_lt, false≢true, le-ltb, lt-ltb, ne_eqb, not-true}
-use Rattle.std.proofs.lemmas.List.{drop_all, drop_more, get_or-map, take_all}
+-- Which bytes are symbols, and runs of them.
+use Rattle.std.proofs.Common.{◌≡◌, ◌≢◌, ℕ, suc, ◌+◌, ◌<◌, ◌==◌, ◌||◌, not, Bool, true, false, get_or, List, [], ◌∷◌, ◌++◌, length, take, drop, map, Some, None, refl, subst, sym, ap, ◌∙◌, arith, inl, inr}
+use Rattle.std.specs.Prelude.{filter, position}
+use Rattle.std.specs.Char.{is_ascii_alphanumeric}
+use Rattle.std.specs.Int.{from_bool}
+use Rattle.std.specs.List.{count_by, position_or_len, range_with_len}
+use Rattle.std.proofs.lemmas.Bool.{cases_Bool, cases_lt, le-ltb, lt-ltb, ne_eqb, not-true}
+use Rattle.std.proofs.lemmas.List.{drop_all, drop_more, take_all}
 use Rattle.std.proofs.lemmas.List.FromFn.{get_or-map-range_with_len}
-use Rattle.std.proofs.lemmas.List.Sums.{passes_at_first, take_while-cons}
-use Rattle.transfer_code.specs.Base64.{is_symbol, symbols_before_padding}
-use Rattle.transfer_code.specs.declared.sextets.TheConstants.{SYMBOLS}
+use Rattle.std.proofs.lemmas.List.Sums.{count_by_more_no, count_by_more_yes, passes_at_first, position_or_len_is}
+use Rattle.memchr.specs.Find.{IsFirstByte, is_byte}
+use Rattle.transfer_code.specs.Base64.{before_padding, is_symbol}
 
--- ---- the table
+-- ---- the test of a byte
 
-are_symbols : map (λ s. not (s == 46)) SYMBOLS ≡ map is_symbol (range_with_len 0 256)
+abbrev by_ranges : ℕ → Bool
+by_ranges b = b == 43 || b == 47 || is_ascii_alphanumeric b
+
+are_symbols : map by_ranges (range_with_len 0 256) ≡ map is_symbol (range_with_len 0 256)
 are_symbols = refl
 
-pub is_symbol-table : (b : ℕ) → b < 256 → not (slice_index SYMBOLS b == 46) ≡ is_symbol b
-is_symbol-table b lt =
-    sym (get_or-map (λ s. not (s == 46)) SYMBOLS b 0 false lt)
+is_symbol-ranges : (b : ℕ) → b < 256 → by_ranges b ≡ is_symbol b
+is_symbol-ranges b lt =
+    sym (get_or-map-range_with_len by_ranges 0 256 b b false lt (omega arith))
     ∙ ap (λ bs. get_or bs b false) are_symbols
     ∙ get_or-map-range_with_len is_symbol 0 256 b b false lt (omega arith)
+
+pub is_symbol-letter : (b : ℕ) → b < 256 → b ≢ 43 → b ≢ 47 → is_ascii_alphanumeric b ≡ is_symbol b
+is_symbol-letter b lt plus slash = sym (rw (ne_eqb b 43 plus, ne_eqb b 47 slash) refl) ∙ is_symbol-ranges b lt
+
+-- ---- what precedes the first `=`
+
+not-true-is : (b : Bool) → ¬ (b ≡ true) → b ≡ false
+not-true-is true h = absurd (h refl)
+not-true-is false h = refl
+
+-- where a search for a `=` finds it
+pub padding-found : (bytes : List ℕ) (at : ℕ) → IsFirstByte (is_byte 61) bytes (Some at) → take at bytes ≡ before_padding bytes
+padding-found bytes at found =
+    ap (λ n. take n bytes) (sym (position_or_len_is (λ b. b == 61) bytes at 0 (omega (arith, found.0.high))
+    (λ k lt. not-true-is (get_or bytes k 0 == 61) (found.0.before k (omega arith) lt)) (λ lt. found.1)))
+
+pub padding-missing : (bytes : List ℕ) → IsFirstByte (is_byte 61) bytes None → bytes ≡ before_padding bytes
+padding-missing bytes none =
+    sym (take_all (length bytes) bytes (omega arith)) ∙ ap (λ n. take n bytes) (sym (position_or_len_is (λ b. b == 61) bytes (length bytes) 0 (omega arith)
+    (λ k lt. not-true-is (get_or bytes k 0 == 61) (none k (omega arith) lt)) (λ lt. absurd (omega arith))))
+
+-- ---- counting
+
+-- one byte more
+pub count-more : (bytes : List ℕ) (i count more : ℕ) (is : Bool) → i < length bytes → count ≡ count_by is_symbol (take i bytes)
+    → is ≡ is_symbol (get_or bytes i 0) → more ≡ from_bool is → count + more ≡ count_by is_symbol (take (i + 1) bytes)
+count-more bytes i count more true lt so_far passes one = omega (arith, so_far, one, count_by_more_yes is_symbol bytes i 0 lt (sym passes))
+count-more bytes i count more false lt so_far fails none = omega (arith, so_far, none, count_by_more_no is_symbol bytes i 0 lt (sym fails))
 
 -- ---- the first run
 
 abbrev run_len : List ℕ → ℕ
 run_len bytes = position_or_len (λ b. not (is_symbol b)) bytes
 
-before_padding-cons : (b : ℕ) (bs : List ℕ) → b ≢ 61 → symbols_before_padding (b ∷ bs) ≡ filter is_symbol (b ∷ take_while (λ b. not (b == 61)) bs)
-before_padding-cons b bs other =
-    let kept : take_while (λ b. not (b == 61)) (b ∷ bs) ≡ b ∷ take_while (λ b. not (b == 61)) bs = take_while-cons (λ b. not (b == 61)) b bs ∙ rw (ne_eqb b 61 other) refl in
-    ap (λ (s : List ℕ). filter is_symbol s) kept
-
-symbol_no_padding : (b : ℕ) → is_symbol b ≡ true → b ≢ 61
-symbol_no_padding b passes is = false≢true (rw is at passes)
-
-after_run : (bs : List ℕ) → symbols_before_padding bs ≡ take (run_len bs) bs ++ symbols_before_padding (drop (run_len bs) bs)
+after_run : (bs : List ℕ) → filter is_symbol bs ≡ take (run_len bs) bs ++ filter is_symbol (drop (run_len bs) bs)
 after_run [] = refl
 after_run (b ∷ bs) = elim (cases_Bool (is_symbol b)) [
   | inl passes ↦ (
       let later : 1 + run_len bs ≡ suc (run_len bs) = omega arith in
-      rw (passes, later) (before_padding-cons b bs (symbol_no_padding b passes) ∙ rw passes (ap (λ (s : List ℕ). b ∷ s) (after_run bs))))
-  | inr fails ↦ rw fails refl
-]
-
-after_run_of : (bs : List ℕ) (at : ℕ) → run_len bs ≡ at → symbols_before_padding bs ≡ take at bs ++ symbols_before_padding (drop at bs)
-after_run_of bs at is = subst (λ n. symbols_before_padding bs ≡ take n bs ++ symbols_before_padding (drop n bs)) is (after_run bs)
-
-found_run : (bs : List ℕ) (at : ℕ) → Some at ≡ position (λ b. not (is_symbol b)) bs → (run_len bs ≡ at) × (at < length bs)
-found_run bs at found = elim (cases_lt (run_len bs) (length bs)) [
-  | inl lt ↦ (
-      let same : Some at ≡ Some (run_len bs) = rw (lt-ltb _ _ lt) at found in
-      let is : run_len bs ≡ at = cc in
-      (is, omega arith))
-  | inr le ↦ (let other : Some at ≡ None = rw (le-ltb _ _ le) at found in absurd cc)
+      rw (passes, later) (ap (λ (s : List ℕ). b ∷ s) (after_run bs)))
+  | inr fails ↦ (
+      let none : run_len (b ∷ bs) ≡ 0 = rw fails refl in
+      subst (λ n. filter is_symbol (b ∷ bs) ≡ take n (b ∷ bs) ++ filter is_symbol (drop n (b ∷ bs))) (sym none) refl)
 ]
 
 -- all bytes are symbols
-pub split-none : (bs : List ℕ) → None ≡ position (λ b. not (is_symbol b)) bs → symbols_before_padding bs ≡ bs ++ []
+pub split-none : (bs : List ℕ) → None ≡ position (λ b. not (is_symbol b)) bs → filter is_symbol bs ≡ bs ++ []
 split-none bs none = elim (cases_lt (run_len bs) (length bs)) [
   | inl lt ↦ (let other : None ≡ Some (run_len bs) = rw (lt-ltb _ _ lt) at none in absurd cc)
   | inr le ↦ after_run bs ∙ rw (take_all (run_len bs) bs le, drop_all (run_len bs) bs le) refl
 ]
 
--- a `=` ends the symbols
-pub split-padding : (bs : List ℕ) (at : ℕ) → Some at ≡ position (λ b. not (is_symbol b)) bs → get_or bs at 0 ≡ 61
-    → symbols_before_padding bs ≡ take at bs ++ []
-split-padding bs at found padding =
-    let run = found_run bs at found in
-    after_run_of bs at run.0 ∙ rw (drop_more bs at 0 run.1, padding) refl
-
--- another byte that is no symbol is skipped
-pub split-other : (bs : List ℕ) (at : ℕ) → Some at ≡ position (λ b. not (is_symbol b)) bs → get_or bs at 0 ≢ 61
-    → symbols_before_padding bs ≡ take at bs ++ symbols_before_padding (drop (at + 1) bs)
-split-other bs at found other =
-    let run = found_run bs at found in
-    let fails : is_symbol (get_or bs at 0) ≡ false =
-    subst (λ n. is_symbol (get_or bs n 0) ≡ false) run.0 (not-true (is_symbol (get_or bs (run_len bs) 0)) (passes_at_first (λ b. not (is_symbol b)) bs 0 (omega (arith, run.0, run.1)))) in
-    let skipped : symbols_before_padding (get_or bs at 0 ∷ drop (at + 1) bs) ≡ symbols_before_padding (drop (at + 1) bs) =
-    before_padding-cons (get_or bs at 0) (drop (at + 1) bs) other ∙ rw fails refl in
-    after_run_of bs at run.0 ∙ rw (drop_more bs at 0 run.1, skipped) refl
+-- a byte that is none is skipped
+pub split-some : (bs : List ℕ) (at : ℕ) → Some at ≡ position (λ b. not (is_symbol b)) bs
+    → filter is_symbol bs ≡ take at bs ++ filter is_symbol (drop (at + 1) bs)
+split-some bs at found = elim (cases_lt (run_len bs) (length bs)) [
+  | inl lt ↦ (
+      let same : Some at ≡ Some (run_len bs) = rw (lt-ltb _ _ lt) at found in
+      let is : run_len bs ≡ at = cc in
+      let fails = not-true (is_symbol (get_or bs (run_len bs) 0)) (passes_at_first (λ b. not (is_symbol b)) bs 0 lt) in
+      let skipped : filter is_symbol (drop (run_len bs) bs) ≡ filter is_symbol (drop (run_len bs + 1) bs) =
+      ap (filter is_symbol) (drop_more bs (run_len bs) 0 lt) ∙ rw fails refl in
+      subst (λ n. filter is_symbol bs ≡ take n bs ++ filter is_symbol (drop (n + 1) bs)) is
+      (after_run bs ∙ ap (λ (s : List ℕ). take (run_len bs) bs ++ s) skipped))
+  | inr le ↦ (let other : Some at ≡ None = rw (le-ltb _ _ le) at found in absurd cc)
+]

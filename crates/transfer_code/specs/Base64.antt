@@ -1,5 +1,5 @@
 -- Base64 (RFC 2045, section 6.8).
-use Rattle.std.specs.Prelude.{◌≡◌, ℕ, ◌+◌, ◌-◌, ◌*◌, ◌/◌, ◌%◌, Bool, not, ◌==◌, if◌then◌else◌, List, [], ◌∷◌, ◌++◌, length, take, codes, flat_map, filter, filter_map, take_while, Option, position}
+use Rattle.std.specs.Prelude.{◌≡◌, ℕ, ◌+◌, ◌-◌, ◌*◌, ◌/◌, ◌%◌, Bool, not, ◌==◌, if◌then◌else◌, List, [], ◌∷◌, ◌++◌, length, take, codes, flat_map, filter_map, take_while, Option, position}
 use Rattle.std.specs.List.{list_any}
 use Rattle.base64.specs.Engines.{standard_no_pad}
 use Rattle.base64.specs.GeneralPurpose.{encode_of, IsBytes}
@@ -11,9 +11,13 @@ alphabet = codes "ABCDEFGHIJKLMNOPQRSTUVWXYZabcdefghijklmnopqrstuvwxyz0123456789
 abbrev pub sextet_of : ℕ → Option ℕ
 sextet_of b = position (λ c. c == b) alphabet
 
--- the sextets of the symbols before the first `=` (61); what is no symbol is skipped
+-- what precedes the first `=` (61)
+abbrev pub before_padding : List ℕ → List ℕ
+before_padding bytes = take_while (λ b. not (b == 61)) bytes
+
+-- the sextets of the symbols before the first `=`; what is no symbol is skipped
 abbrev pub sextets : List ℕ → List ℕ
-sextets bytes = filter_map sextet_of (take_while (λ b. not (b == 61)) bytes)
+sextets bytes = filter_map sextet_of (before_padding bytes)
 
 -- the bits of a sextet, the highest first
 abbrev pub six_bits : ℕ → List ℕ
@@ -37,10 +41,6 @@ IsEncoded symbols = (bytes : List ℕ) × IsBytes bytes × (symbols ≡ encode_o
 
 abbrev pub is_symbol : ℕ → Bool
 is_symbol b = list_any (λ c. c == b) alphabet
-
--- the symbols before the first `=` (61)
-abbrev pub symbols_before_padding : List ℕ → List ℕ
-symbols_before_padding bytes = filter is_symbol (take_while (λ b. not (b == 61)) bytes)
 
 -- whole groups of four: one symbol left over is dropped, and two or three are filled up with `A` (65), which is six zero bits
 abbrev pub completed : List ℕ → List ℕ

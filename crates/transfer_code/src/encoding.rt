@@ -1,12 +1,12 @@
 //! Which transfer encoding a body has, and what it decodes to.
-ghost use Rattle.std.specs.Prelude.{◌≡◌, IfOk};
+ghost use Rattle.std.specs.Prelude.{◌≡◌, IfOk, length};
 ghost use Rattle.kit.specs.Lines.{raw_lines};
 ghost use Rattle.transfer_code.specs.declared.encoding.Encoding.TheVariants.{Quoted};
 ghost use Rattle.transfer_code.specs.Quoted.{LinesText};
 ghost use Rattle.transfer_code.specs.Encodings.{encoding_named, encoding_of, decode_body};
 
 use crate::quoted::decode_quoted;
-use crate::sextets::decode_base64;
+use crate::sextets::{base64_len, decode_base64};
 use kit::{Memory, same_name, trim};
 use std::alloc::Global;
 
@@ -59,5 +59,17 @@ pub fn decode_body(alloc: Global, encoding: Encoding, bytes: &[u8]) -> Result<Ve
         Encoding::Plain => Ok(Vec::from_slice(alloc, bytes)?),
         Encoding::Quoted => decode_quoted(alloc, bytes),
         Encoding::Base64 => decode_base64(alloc, bytes),
+    }
+}
+
+/// How many bytes a body of any length decodes to in its encoding: the length of what `decode_body` gives. Only `Quoted`
+/// takes memory, for the bytes themselves; `Err` only when it runs out.
+pub fn decoded_len(alloc: Global, encoding: Encoding, bytes: &[u8]) -> Result<usize, Memory>
+    ensures { IfOk result (λ len. len ≡ length (decode_body encoding bytes.now)) }
+{
+    match encoding {
+        Encoding::Plain => Ok(bytes.len()),
+        Encoding::Quoted => Ok(decode_quoted(alloc, bytes)?.len()),
+        Encoding::Base64 => Ok(base64_len(bytes)),
     }
 }

@@ -7,5 +7,5 @@ mod escapes;
 mod quoted;
 mod sextets;
 
-pub use encoding::{Encoding, decode_body, encoding_of};
+pub use encoding::{Encoding, decode_body, decoded_len, encoding_of};
 pub use escapes::unescaped;

@@ -1,29 +1,33 @@
 //! Base64.
-ghost use Rattle.std.specs.Prelude.{◌≡◌, ◌++◌, ◌<◌, ℕ, not, List, Ok, length, position, IfOk, IfSome, OnOk};
+ghost use Rattle.std.specs.Prelude.{◌≡◌, ◌++◌, ◌<◌, ◌≤◌, ◌*◌, ◌/◌, ℕ, not, List, Ok, filter, length, position, IfOk, IfSome, OnOk};
+ghost use Rattle.std.specs.List.{count_by};
 ghost use Rattle.base64.specs.Engines.{standard_no_pad};
 ghost use Rattle.base64.specs.GeneralPurpose.{decode_of, encode_of, IsBytes};
-ghost use Rattle.transfer_code.specs.Base64.{IsEncoded, is_symbol, completed, decode_base64, symbols_before_padding};
+ghost use Rattle.transfer_code.specs.Base64.{IsEncoded, before_padding, completed, decode_base64, is_symbol};
 
 use base64::DecodeAllocError;
 use base64::engine::general_purpose::STANDARD_NO_PAD;
 use kit::Memory;
+use memchr::memchr;
 use std::alloc::Global;
-
-/// At the index of each byte that byte, if it is a symbol, and else a `.`, which is none.
-const SYMBOLS: [u8; 256] = *b"\
-    ................................\
-    ...........+.../0123456789......\
-    .ABCDEFGHIJKLMNOPQRSTUVWXYZ.....\
-    .abcdefghijklmnopqrstuvwxyz.....\
-    ................................\
-    ................................\
-    ................................\
-    ................................";
 
 fn is_symbol(b: u8) -> bool
     ensures { result ≡ is_symbol b }
 {
-    SYMBOLS[usize::from(b)] != b'.'
+    match b {
+        b'+' | b'/' => true,
+        _ => b.is_ascii_alphanumeric(),
+    }
+}
+
+/// What precedes the first `=`.
+fn before_padding(bytes: &[u8]) -> &[u8]
+    ensures { result.now ≡ before_padding bytes.now }
+{
+    match memchr(b'=', bytes) {
+        Some(at) => &bytes[..at],
+        None => bytes,
+    }
 }
 
 /// The offset of the first byte that is no symbol.
@@ -34,22 +38,20 @@ fn first_other(bytes: &[u8]) -> Option<usize>
     bytes.iter().position(|b| !is_symbol(*b))
 }
 
-/// The symbols before the first byte that is none, and what is left to read after that byte: nothing, if it
-/// is a `=`.
+/// The symbols before the first byte that is none, and what follows that byte.
 fn split_symbols(bytes: &[u8]) -> (&[u8], &[u8])
-    ensures value { symbols_before_padding bytes.now ≡ result.0.now ++ symbols_before_padding result.1.now }
+    ensures value { filter is_symbol bytes.now ≡ result.0.now ++ filter is_symbol result.1.now }
     ensures shorter { 0 < length bytes.now → length result.1.now < length bytes.now }
 {
     match first_other(bytes) {
-        None => (bytes, b""),
-        Some(at) if bytes[at] == b'=' => (&bytes[..at], b""),
         Some(at) => (&bytes[..at], &bytes[at + 1..]),
+        None => (bytes, b""),
     }
 }
 
-/// The symbols before the first `=`.
+/// The bytes that are symbols.
 fn symbols_of(alloc: Global, bytes: &[u8]) -> Result<Vec<u8>, Memory>
-    ensures { IfOk result (λ symbols. symbols.items ≡ symbols_before_padding bytes.now) }
+    ensures { IfOk result (λ symbols. symbols.items ≡ filter is_symbol bytes.now) }
 {
     // Room for all bytes and for the two that `complete` adds at most, so that nothing is moved.
     let mut symbols = Vec::with_capacity(alloc, bytes.len() + 2)?;
@@ -60,6 +62,32 @@ fn symbols_of(alloc: Global, bytes: &[u8]) -> Result<Vec<u8>, Memory>
         left = rest;
     }
     Ok(symbols)
+}
+
+/// How many of at most 255 bytes are symbols. A count of one byte lets a processor count many bytes at once.
+fn count_few(bytes: &[u8]) -> u8
+    requires { length bytes.now ≤ 255 }
+    ensures { result ≡ count_by is_symbol bytes.now }
+{
+    let mut count = 0;
+    for b in bytes {
+        count += u8::from(is_symbol(*b));
+    }
+    count
+}
+
+/// How many of the bytes are symbols.
+fn count_symbols(bytes: &[u8]) -> usize
+    ensures { result ≡ count_by is_symbol bytes.now }
+{
+    let mut count = 0;
+    let mut left = bytes;
+    while !left.is_empty() {
+        let (few, rest) = left.split_at(left.len().min(255));
+        count += usize::from(count_few(few));
+        left = rest;
+    }
+    count
 }
 
 /// Makes whole groups of four of the symbols: one left over is dropped, and two or three are filled up
@@ -90,12 +118,26 @@ fn decode_exactly(alloc: Global, symbols: &[u8]) -> Result<Vec<u8>, Memory>
     }
 }
 
+/// How many bytes so many symbols of six bits each decode to: a last short one is dropped.
+fn whole_bytes(symbols: usize) -> usize
+    ensures { result ≡ 6 * symbols / 8 }
+{
+    symbols - symbols.div_ceil(4)
+}
+
+/// How many bytes text in base64 decodes to.
+pub fn base64_len(bytes: &[u8]) -> usize
+    ensures { result ≡ length (decode_base64 bytes.now) }
+{
+    whole_bytes(count_symbols(before_padding(bytes)))
+}
+
 /// The bytes that text in base64 decodes to.
 pub fn decode_base64(alloc: Global, bytes: &[u8]) -> Result<Vec<u8>, Memory>
     ensures { IfOk result (λ out. out.items ≡ decode_base64 bytes.now) }
 {
-    let mut symbols = symbols_of(alloc, bytes)?;
-    let whole = symbols.len() - symbols.len().div_ceil(4);
+    let mut symbols = symbols_of(alloc, before_padding(bytes))?;
+    let whole = whole_bytes(symbols.len());
     complete(&mut symbols)?;
     let mut out = decode_exactly(alloc, &symbols)?;
     out.truncate(whole);

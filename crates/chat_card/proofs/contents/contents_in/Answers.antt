@@ -1,7 +1,7 @@
 use Rattle.std.proofs.Common.{List, Bor, ap, map, sym, ◌∙◌}
 use Rattle.std.specs.List.{filter_map, join_with_byte, list_any}
 use Rattle.chat_card.specs.declared.leaf.Kept as Borrowed
-use Rattle.chat_card.specs.declared.part.Part.{Part}
+use Rattle.chat_card.specs.Parts.{Part}
 use Rattle.chat_card.specs.Files.{attachment, is_app}
 use Rattle.chat_card.specs.Shown.{file_of, text_of}
 use Rattle.chat_card.specs.Views.{kept}
