@@ -1,11 +1,11 @@
 //! The words in bytes, and the plain runs between them.
-ghost use Rattle.std.specs.Prelude.{◌≡◌, ◌++◌, ◌<◌, IfOk, OnOk, MatchOption, length};
+ghost use Rattle.std.specs.Prelude.{◌≡◌, ◌++◌, ◌<◌, true, IfOk, OnOk, MatchOption, length};
 ghost use Rattle.std.specs.String.{string_bytes};
 ghost use Rattle.kit.specs.declared.charset.Charset.TheVariants.{Utf8};
 ghost use Rattle.kit.specs.Charsets.{to_text};
 ghost use Rattle.encoded_words.specs.Words.{word_text};
 ghost use Rattle.encoded_words.specs.Views.{found};
-ghost use Rattle.encoded_words.specs.Runs.{Last, Next, runs, kept, decode_words};
+ghost use Rattle.encoded_words.specs.Runs.{Last, Next, runs, kept, decode_words, rewritten, text_of};
 
 use crate::word::{Word, word_at};
 use kit::{Charset, Memory, Text, is_blank, to_text};
@@ -24,15 +24,11 @@ fn first_word(bytes: &[u8]) -> Option<(&[u8], Word<'_>)>
     None
 }
 
-/// What stays of a plain run before a word.
-fn kept(after_word: bool, plain: &[u8]) -> &[u8]
-    ensures { result.now ≡ kept after_word plain.now }
+/// What stays of a plain run between two words.
+fn kept(plain: &[u8]) -> &[u8]
+    ensures { result.now ≡ kept true plain.now }
 {
-    if after_word && is_blank(plain) {
-        &plain[..0]
-    } else {
-        plain
-    }
+    if is_blank(plain) { &plain[..0] } else { plain }
 }
 
 fn push_plain(out: &mut String, plain: &[u8]) -> Result<(), Memory>
@@ -51,6 +47,24 @@ fn push_word(out: &mut String, word: &Word) -> Result<(), Memory>
     Ok(())
 }
 
+/// The text of a plain run, the word after it, and what follows that.
+fn text_from_word(alloc: Global, plain: &[u8], word: &Word) -> Result<Text, Memory>
+    ensures { IfOk result (λ text. text
+        ≡ to_text Utf8 plain.now ++ word_text (found word.now) ++ text_of (rewritten true (runs word.now.rest.now))) }
+{
+    let mut out = String::new(alloc);
+    push_plain(&mut out, plain)?;
+    push_word(&mut out, word)?;
+    let mut rest = word.rest;
+    while let Some((plain, word)) = first_word(rest) {
+        push_plain(&mut out, kept(plain))?;
+        push_word(&mut out, &word)?;
+        rest = word.rest;
+    }
+    push_plain(&mut out, rest)?;
+    Ok(Text::from(out))
+}
+
 /// The text of the body of a header field, of any length, with each encoded word read (RFC 2047). Takes memory;
 /// `Err` only when it runs out.
 ///
@@ -62,15 +76,8 @@ fn push_word(out: &mut String, word: &Word) -> Result<(), Memory>
 pub fn decode_words(alloc: Global, body: &[u8]) -> Result<Text, Memory>
     ensures { IfOk result (λ text. text ≡ decode_words body.now) }
 {
-    let mut out = String::new(alloc);
-    let mut rest = body;
-    let mut after_word = false;
-    while let Some((plain, word)) = first_word(rest) {
-        push_plain(&mut out, kept(after_word, plain))?;
-        push_word(&mut out, &word)?;
-        rest = word.rest;
-        after_word = true;
+    match first_word(body) {
+        Some((plain, word)) => text_from_word(alloc, plain, &word),
+        None => to_text(alloc, Charset::Utf8, body),
     }
-    push_plain(&mut out, rest)?;
-    Ok(Text::from(out))
 }

@@ -2,9 +2,8 @@
 use Rattle.std.specs.Prelude.{ℕ, ◌==◌, List, length, map, filter_map, Option, option_map}
 use Rattle.std.specs.List.{before_first}
 use Rattle.lists.specs.Distinct.{each_once}
-use Rattle.mime_fields.specs.declared.raw_param.RawParam.{RawParam}
 use Rattle.mime_fields.specs.declared.param.Param.{Param}
-use Rattle.mime_fields.specs.RawParams.{first_value}
+use Rattle.mime_fields.specs.RawParams.{RawParam, first_value}
 use Rattle.mime_fields.specs.Sections.{param_value}
 
 -- the name of the parameter that a full name is of: what precedes its first `*` (42)

@@ -8,8 +8,12 @@ use Rattle.kit.specs.Cuts.{split_once}
 use Rattle.kit.specs.Letters.{lowered}
 use Rattle.kit.specs.Options.{◌>>=◌}
 use Rattle.kit.specs.White.{is_blank, trim}
-use Rattle.mime_fields.specs.declared.raw_param.RawParam.{RawParam}
 use Rattle.mime_fields.specs.Segments.{further_segments}
+
+-- its full name in small letters, as `title*1*`, and what the value has inside its quotes, or all of it
+pub record RawParam : Type 0 where
+  pub name : List ℕ
+  pub value : List ℕ
 
 -- What a quoted string has inside, of the bytes after its `"` (34), up to the next one: a backslash (92) gives the byte
 -- after it (RFC 5322, section 3.2.4). The flag says whether a backslash precedes the bytes.

@@ -6,7 +6,7 @@ ghost use Rattle.kit.specs.Printing.{is_visible};
 ghost use Rattle.mime_fields.specs.Kinds.{content_type, content_type_in, default_type, type_in, type_of};
 
 use crate::param::{Param, params};
-use crate::raw_param::{lowered, raw_params};
+use crate::raw_param::lowered;
 use crate::segment::main_word;
 use kit::{Charset, Memory, Text, is_visible, same_name, split_once, to_text};
 use std::alloc::Global;
@@ -102,7 +102,7 @@ pub fn content_type_in(alloc: Global, digest: bool, body: &[u8]) -> Result<Conte
     Ok(ContentType {
         top: lowered_text(alloc, top)?,
         sub: lowered_text(alloc, sub)?,
-        params: params(alloc, &raw_params(alloc, body)?)?,
+        params: params(alloc, body)?,
     })
 }
 

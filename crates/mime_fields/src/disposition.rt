@@ -3,7 +3,6 @@ ghost use Rattle.std.specs.Prelude.{◌≡◌, IfOk};
 ghost use Rattle.mime_fields.specs.Kinds.{disposition};
 
 use crate::param::value_in;
-use crate::raw_param::raw_params;
 use crate::segment::main_word;
 use kit::{Memory, Text, same_name};
 use std::alloc::Global;
@@ -26,7 +25,7 @@ pub struct Disposition {
 pub fn read_disposition(alloc: Global, body: &[u8]) -> Result<Disposition, Memory>
     ensures { IfOk result (λ read. read ≡ disposition body.now) }
 {
-    let name = value_in(alloc, &raw_params(alloc, body)?, "filename")?;
+    let name = value_in(alloc, body, "filename")?;
     Ok(Disposition {
         attach: same_name(main_word(body), b"attachment"),
         name: name.unwrap_or(Text::from(String::new(alloc))),

@@ -1,12 +1,18 @@
 //! Parameters.
-ghost use Rattle.std.specs.Prelude.{◌≡◌, IfOk, map};
+ghost use Rattle.std.specs.Prelude.{◌≡◌, ◌++◌, ◌∷◌, ℕ, List, [], IfOk, OnOk, bytes_eq, if◌then◌else◌, true};
+ghost use Rattle.std.specs.BTreeSet.{contains};
+ghost use Rattle.std.specs.Cmp.Lexicographic.{slice_cmp};
+ghost use Rattle.std.specs.Ordering.{nat_cmp};
 ghost use Rattle.mime_fields.specs.Params.{base_name, names_of, params, value_in};
+ghost use Rattle.mime_fields.specs.RawParams.{raw_params};
+ghost use Rattle.mime_fields.specs.Views.{written};
 
-use crate::raw_param::RawParam;
-use crate::section::{first_values, param_value};
+use crate::raw_param::{RawParam, name_of, next_param};
+use crate::section::{param_value, values_in};
+use crate::segment::Segments;
 use kit::{Memory, Text};
-use lists::each_once;
 use std::alloc::Global;
+use std::collections::BTreeSet;
 
 /// A parameter of a content type (RFC 2045, section 5.1).
 #[derive(Debug, Drop)]
@@ -27,42 +33,60 @@ fn base_name(name: &str) -> &str
     }
 }
 
-fn base_names(alloc: Global, raw_params: &[RawParam]) -> Result<Vec<Text>, Memory>
-    ensures { IfOk result (λ names. names.items ≡ map (λ raw_param. base_name raw_param.name) raw_params.now) }
+/// The name of the parameter that a parameter as it is written is of.
+fn base_of(alloc: Global, raw_param: RawParam) -> Result<Text, Memory>
+    ensures { IfOk result (λ name. name ≡ base_name (written raw_param.entry).name) }
+{
+    let name = name_of(alloc, raw_param.name)?;
+    Ok(Text::from(String::from_str(alloc, base_name(name.as_str()))?))
+}
+
+/// Puts a name after the others, if it is not yet seen.
+fn push_new(names: &mut Vec<Text>, seen: &mut BTreeSet<Text>, name: Text) -> Result<(), Memory>
+    ensures seen { OnOk result ((q : List ℕ) → contains (slice_cmp nat_cmp) seen.new q
+        ≡ (if bytes_eq name q then true else contains (slice_cmp nat_cmp) seen.old q)) }
+    ensures names { OnOk result (names.new.items
+        ≡ (if contains (slice_cmp nat_cmp) seen.old name then names.old.items else names.old.items ++ name ∷ [])) }
+{
+    if seen.insert(name.copy()?)? {
+        names.push(name)?;
+    }
+    Ok(())
+}
+
+/// The names of the parameters, each once, in the order in which they first come.
+fn names_of(alloc: Global, body: &[u8]) -> Result<Vec<Text>, Memory>
+    ensures { IfOk result (λ names. names.items ≡ names_of (raw_params body.now)) }
 {
     let mut names = Vec::new(alloc);
-    for raw_param in raw_params {
-        let name = base_name(raw_param.name.as_str());
-        names.push(Text::from(String::from_str(alloc, name)?))?;
+    let mut seen = BTreeSet::new(alloc);
+    let mut left = Segments::further(body);
+    while let Some((raw_param, rest)) = next_param(left) {
+        push_new(&mut names, &mut seen, base_of(alloc, raw_param)?)?;
+        left = rest;
     }
     Ok(names)
 }
 
-/// The names of the parameters, each once, in the order in which they first come.
-fn names_of(alloc: Global, raw_params: &[RawParam]) -> Result<Vec<Text>, Memory>
-    ensures { IfOk result (λ names. names.items ≡ names_of raw_params.now) }
+/// The parameters in the body of a field that have a value, each once, in the order in which their names first come.
+pub fn params(alloc: Global, body: &[u8]) -> Result<Vec<Param>, Memory>
+    ensures { IfOk result (λ found. found.items ≡ params (raw_params body.now)) }
 {
-    each_once(alloc, base_names(alloc, raw_params)?)
-}
-
-/// The parameters that have a value, each once, in the order in which their names first come.
-pub fn params(alloc: Global, raw_params: &[RawParam]) -> Result<Vec<Param>, Memory>
-    ensures { IfOk result (λ found. found.items ≡ params raw_params.now) }
-{
-    let values = first_values(alloc, raw_params)?;
+    let names = names_of(alloc, body)?;
+    let values = values_in(alloc, b"", body)?;
     let mut found = Vec::new(alloc);
-    for name in names_of(alloc, raw_params)? {
-        if let Some(value) = param_value(alloc, &values, raw_params.len(), name.as_str())? {
+    for name in names {
+        if let Some(value) = param_value(alloc, &values, name.as_str())? {
             found.push(Param { name, value })?;
         }
     }
     Ok(found)
 }
 
-/// The value of the parameter of a name.
-pub fn value_in(alloc: Global, raw_params: &[RawParam], name: &str) -> Result<Option<Text>, Memory>
-    ensures { IfOk result (λ value. value ≡ value_in raw_params.now name.now) }
+/// The value of the parameter of a name in the body of a field.
+pub fn value_in(alloc: Global, body: &[u8], name: &str) -> Result<Option<Text>, Memory>
+    ensures { IfOk result (λ value. value ≡ value_in (raw_params body.now) name.now) }
 {
-    let values = first_values(alloc, raw_params)?;
-    param_value(alloc, &values, raw_params.len(), name)
+    let values = values_in(alloc, name.as_bytes(), body)?;
+    param_value(alloc, &values, name)
 }

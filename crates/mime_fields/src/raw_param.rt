@@ -1,30 +1,43 @@
 //! Parameters as they are written.
-ghost use Rattle.std.specs.Prelude.{◌≡◌, IfOk, map};
+ghost use Rattle.std.specs.Prelude.{◌≡◌, ◌++◌, [], ◌∷◌, IfOk, MatchOption, OnOk};
 ghost use Rattle.std.specs.Option.{option_copied};
+ghost use Rattle.std.specs.String.{string_bytes};
 ghost use Rattle.kit.specs.Letters.{lowered};
-ghost use Rattle.mime_fields.specs.RawParams.{after_quote, bare, inside, name_of, raw_param_of, raw_params, value_of};
+ghost use Rattle.mime_fields.specs.RawParams.{after_quote, bare, inside, name_of, value_of};
+ghost use Rattle.mime_fields.specs.Views.{params_in, written};
 
-use crate::segment::further_segments;
-use kit::{
-    Bytes, Charset, Memory, Text, before_first, begins_quoted_pair, is_blank, lower, split_once,
-    to_text, trim,
-};
+use crate::segment::Segments;
+use kit::{Memory, before_first, begins_quoted_pair, is_blank, lower, split_once, trim};
 use std::alloc::Global;
 
-/// A parameter as it is written, `name=value` (RFC 2045, section 5.1).
-#[derive(Debug, Drop)]
-pub struct RawParam {
-    /// The full name in small letters, as `title*1*`.
-    pub name: Text,
-    /// What the value has inside its quotes, or all of it.
-    pub value: Bytes,
+/// A parameter as it is written, `name=value` (RFC 2045, section 5.1), in the body of its field.
+#[derive(Clone, Copy)]
+pub struct RawParam<'a> {
+    /// What precedes the first `=`.
+    pub name: &'a [u8],
+    /// What follows it.
+    pub value: &'a [u8],
 }
 
-/// What a quoted string has inside, of the bytes after its first quote (RFC 5322, section 3.2.4).
-fn inside(alloc: Global, bytes: &[u8]) -> Result<Bytes, Memory>
-    ensures { IfOk result (λ value. value ≡ inside bytes.now) }
+/// The first parameter that segments hold, and the segments after it: `None` exactly where none has a `=`.
+pub fn next_param(segments: Segments<'_>) -> Option<(RawParam<'_>, Segments<'_>)>
+    ensures { MatchOption result (params_in segments.entry ≡ [])
+        (λ p. params_in segments.entry ≡ written p.0 ∷ params_in p.1) }
 {
-    let mut value = Vec::new(alloc);
+    let mut left = segments;
+    while let Some((segment, rest)) = left.split_first() {
+        if let Some((name, value)) = split_once(segment, b'=') {
+            return Some((RawParam { name, value }, rest));
+        }
+        left = rest;
+    }
+    None
+}
+
+/// Appends what a quoted string has inside, of the bytes after its first quote (RFC 5322, section 3.2.4).
+fn push_inside(out: &mut Vec<u8>, bytes: &[u8]) -> Result<(), Memory>
+    ensures { OnOk result (out.new.items ≡ out.old.items ++ inside bytes.now) }
+{
     let mut escaped = false;
     for byte in bytes {
         if *byte == b'"' && !escaped {
@@ -32,10 +45,10 @@ fn inside(alloc: Global, bytes: &[u8]) -> Result<Bytes, Memory>
         }
         escaped = begins_quoted_pair(escaped, *byte);
         if !escaped {
-            value.push(*byte)?;
+            out.push(*byte)?;
         }
     }
-    Ok(Bytes::from(value))
+    Ok(())
 }
 
 /// What follows the quote that a value begins with.
@@ -53,13 +66,24 @@ fn bare(text: &[u8]) -> &[u8]
     trim(before_first(text, b'('))
 }
 
-fn value_of(alloc: Global, text: &[u8]) -> Result<Bytes, Memory>
-    ensures { IfOk result (λ value. value ≡ value_of text.now) }
+/// Appends the value that follows a `=`: what is inside its quotes, or all of it.
+pub fn push_value(out: &mut Vec<u8>, text: &[u8]) -> Result<(), Memory>
+    ensures { OnOk result (out.new.items ≡ out.old.items ++ value_of text.now) }
 {
     match after_quote(text) {
-        Some(quoted) => inside(alloc, quoted),
-        None => Bytes::from_slice(alloc, bare(text)),
+        Some(quoted) => push_inside(out, quoted)?,
+        None => out.extend_from_slice(bare(text))?,
     }
+    Ok(())
+}
+
+/// The value that follows a `=`.
+pub fn value_of(alloc: Global, text: &[u8]) -> Result<Vec<u8>, Memory>
+    ensures { IfOk result (λ value. value.items ≡ value_of text.now) }
+{
+    let mut value = Vec::new(alloc);
+    push_value(&mut value, text)?;
+    Ok(value)
 }
 
 /// A copy of a name in small letters.
@@ -71,36 +95,10 @@ pub fn lowered(alloc: Global, name: &[u8]) -> Result<Vec<u8>, Memory>
     Ok(letters)
 }
 
-fn name_of(alloc: Global, text: &[u8]) -> Result<Text, Memory>
-    ensures { IfOk result (λ name. name ≡ name_of text.now) }
+/// The full name that precedes a `=`, in small letters, as `title*1*`.
+pub fn name_of(alloc: Global, text: &[u8]) -> Result<String, Memory>
+    ensures { IfOk result (λ name. string_bytes name ≡ name_of text.now) }
 {
-    to_text(alloc, Charset::Utf8, &lowered(alloc, trim(text))?)
-}
-
-/// The parameter that a segment is, if it has a `=`.
-fn raw_param_of(alloc: Global, segment: &[u8]) -> Result<Option<RawParam>, Memory>
-    ensures { IfOk result (λ raw_param. raw_param ≡ raw_param_of segment.now) }
-{
-    match split_once(segment, b'=') {
-        Some((name, value)) => {
-            let name = name_of(alloc, name)?;
-            let value = value_of(alloc, value)?;
-            Ok(Some(RawParam { name, value }))
-        }
-        None => Ok(None),
-    }
-}
-
-/// The parameters in the body of a field, as they are written: those of the segments after the first one that have
-/// a `=`.
-pub fn raw_params(alloc: Global, body: &[u8]) -> Result<Vec<RawParam>, Memory>
-    ensures { IfOk result (λ found. found.items ≡ raw_params body.now) }
-{
-    let mut found = Vec::new(alloc);
-    for segment in &further_segments(alloc, body)? {
-        if let Some(raw_param) = raw_param_of(alloc, segment)? {
-            found.push(raw_param)?;
-        }
-    }
-    Ok(found)
+    let letters = lowered(alloc, trim(text))?;
+    Ok(String::from_utf8_lossy(alloc, &letters)?)
 }

@@ -1,22 +1,33 @@
 //! Parameters in sections and in a charset of their own (RFC 2231).
-ghost use Rattle.std.specs.Prelude.{◌≡◌, ◌++◌, IfOk, OnOk, flat_map, map, option_map};
-ghost use Rattle.std.specs.Option.{option_copied};
+ghost use Rattle.std.specs.Prelude.{◌≡◌, ◌++◌, ◌∷◌, ℕ, List, [], IfOk, OnOk, Some, None, bytes_eq, flat_map, if◌then◌else◌, length, option_map};
+ghost use Rattle.std.specs.Option.{option_or};
+ghost use Rattle.std.specs.String.{string_bytes};
 ghost use Rattle.encoded_words.specs.Runs.{decode_words};
-ghost use Rattle.mime_fields.specs.RawParams.{first_value};
-ghost use Rattle.mime_fields.specs.Sections.{charset_and_bytes, named_charset, numbered_section, numbered_sections, opening, param_value, section_bytes, sections, sections_text};
-ghost use Rattle.mime_fields.specs.Views.{held, shown};
+ghost use Rattle.mime_fields.specs.RawParams.{raw_params, value_of};
+ghost use Rattle.mime_fields.specs.Sections.{Encoded, charset_and_bytes, named_charset, numbered_section, numbered_sections, opening, param_value, section_bytes, sections, sections_text};
+ghost use Rattle.mime_fields.specs.Views.{first_value_under, held, sections_from, shown, value_under, written};
 
-use crate::raw_param::RawParam;
+use crate::raw_param::{RawParam, name_of, next_param, push_value, value_of};
+use crate::segment::Segments;
 use encoded_words::decode_words;
 use kit::{Charset, Memory, Text, charset_of, split_once, to_text};
 use percent_encoding::percent_decode;
 use std::alloc::Global;
 use std::collections::BTreeMap;
 
-/// The values of the parameters of a field by their full names, as `title*1*`.
-pub type Values<'a> = BTreeMap<String, &'a [u8]>;
+/// What follows the `=` of the first parameter of each full name, as `title*1*`.
+type Firsts<'a> = BTreeMap<String, &'a [u8]>;
 
-/// A section of a value, or all of it.
+/// The values of the parameters of a field.
+#[derive(Drop)]
+pub struct Values<'a> {
+    /// The first one of each full name.
+    firsts: Firsts<'a>,
+    /// How many parameters the field has, as they are written.
+    count: usize,
+}
+
+/// A section of a value, or all of it, as it follows its `=`.
 #[derive(Clone, Copy)]
 enum Section<'a> {
     /// Bytes as they are.
@@ -25,24 +36,54 @@ enum Section<'a> {
     Encoded(&'a [u8]),
 }
 
-/// The first value of each full name.
-pub fn first_values(alloc: Global, raw_params: &[RawParam]) -> Result<Values<'_>, Memory>
-    ensures { IfOk result (λ values. held values ≡ first_value raw_params.now) }
+/// Puts a value under a name that has none.
+fn put<'a>(firsts: &mut Firsts<'a>, name: String, value: &'a [u8]) -> Result<(), Memory>
+    ensures { OnOk result ((q : List ℕ) → held firsts.new q
+        ≡ option_or (held firsts.old q) (if bytes_eq q (string_bytes name) then Some (value_of value.now) else None)) }
 {
-    let mut values = BTreeMap::new(alloc);
-    for raw_param in raw_params {
-        let name = raw_param.name.as_str();
-        if !values.contains_key(name) {
-            values.insert(String::from_str(alloc, name)?, raw_param.value.bytes())?;
-        }
+    if !firsts.contains_key(name.as_str()) {
+        firsts.insert(name, value)?;
     }
-    Ok(values)
+    Ok(())
 }
 
-fn value_named<'a>(values: &Values<'a>, name: &str) -> Option<&'a [u8]>
-    ensures { option_copied result ≡ held values.now name.now }
+/// Puts the value of a parameter under its full name, if that begins with a prefix and has none.
+fn put_param<'a>(
+    alloc: Global,
+    firsts: &mut Firsts<'a>,
+    prefix: &[u8],
+    raw_param: RawParam<'a>,
+) -> Result<(), Memory>
+    ensures { OnOk result ((q : List ℕ) → held firsts.new q
+        ≡ option_or (held firsts.old q) (value_under prefix.now (written raw_param.entry) q)) }
 {
-    values.get(name).copied()
+    let name = name_of(alloc, raw_param.name)?;
+    if name.as_bytes().starts_with(prefix) {
+        put(firsts, name, raw_param.value)?;
+    }
+    Ok(())
+}
+
+/// The values of the parameters in the body of a field, of those whose full names begin with a prefix.
+pub fn values_in<'a>(alloc: Global, prefix: &[u8], body: &'a [u8]) -> Result<Values<'a>, Memory>
+    ensures firsts { IfOk result (λ values. held values.firsts ≡ first_value_under prefix.now (raw_params body.now)) }
+    ensures count { IfOk result (λ values. values.count ≡ length (raw_params body.now)) }
+{
+    let mut firsts = BTreeMap::new(alloc);
+    let mut count = 0;
+    let mut left = Segments::further(body);
+    while let Some((raw_param, rest)) = next_param(left) {
+        put_param(alloc, &mut firsts, prefix, raw_param)?;
+        count += 1;
+        left = rest;
+    }
+    Ok(Values { firsts, count })
+}
+
+fn value_at<'a>(values: &Values<'a>, name: &str) -> Option<&'a [u8]>
+    ensures { option_map (λ text. value_of text.now) result ≡ held values.now.firsts name.now }
+{
+    values.firsts.get(name).copied()
 }
 
 /// The section of a number, if the parameter has it: `name*1`, or else `name*1*`.
@@ -52,51 +93,16 @@ fn numbered_section<'a>(
     name: &str,
     number: usize,
 ) -> Result<Option<Section<'a>>, Memory>
-    ensures { IfOk result (λ found. option_map shown found ≡ numbered_section (held values.now) name.now number) }
+    ensures { IfOk result (λ found. option_map shown found ≡ numbered_section (held values.now.firsts) name.now number) }
 {
     let mut key = format!(in alloc; "{name}*{number}")?;
-    if let Some(bytes) = value_named(values, key.as_str()) {
-        return Ok(Some(Section::Plain(bytes)));
+    if let Some(text) = value_at(values, key.as_str()) {
+        return Ok(Some(Section::Plain(text)));
     }
     key.push('*')?;
-    match value_named(values, key.as_str()) {
-        Some(bytes) => Ok(Some(Section::Encoded(bytes))),
+    match value_at(values, key.as_str()) {
+        Some(text) => Ok(Some(Section::Encoded(text))),
         None => Ok(None),
-    }
-}
-
-/// The sections of the numbers below `count`, from 0 on, up to the first that is missing.
-fn numbered_sections<'a>(
-    alloc: Global,
-    values: &Values<'a>,
-    count: usize,
-    name: &str,
-) -> Result<Vec<Section<'a>>, Memory>
-    ensures { IfOk result (λ found. map shown found.items ≡ numbered_sections (held values.now) count name.now) }
-{
-    let mut found = Vec::new(alloc);
-    for number in 0..count {
-        match numbered_section(alloc, values, name, number)? {
-            Some(section) => found.push(section)?,
-            None => break,
-        }
-    }
-    Ok(found)
-}
-
-/// `name*`, or else the numbered sections.
-fn sections<'a>(
-    alloc: Global,
-    values: &Values<'a>,
-    count: usize,
-    name: &str,
-) -> Result<Vec<Section<'a>>, Memory>
-    ensures { IfOk result (λ found. map shown found.items ≡ sections (held values.now) count name.now) }
-{
-    let key = format!(in alloc; "{name}*")?;
-    match value_named(values, key.as_str()) {
-        Some(bytes) => Ok(vec![in alloc; Section::Encoded(bytes)]?),
-        None => numbered_sections(alloc, values, count, name),
     }
 }
 
@@ -119,76 +125,112 @@ fn charset_and_bytes(value: &[u8]) -> Option<(Charset, &[u8])>
     Some((named_charset(charset), bytes))
 }
 
-/// The charset that the first section names, and that section without it.
-fn opening<'a>(first: &Section<'a>) -> (Charset, Section<'a>)
-    ensures { (result.0, shown result.1) ≡ opening (shown first.now) }
+/// The charset of an encoded value, and the bytes that are encoded.
+fn opening(value: &[u8]) -> (Charset, &[u8])
+    ensures { (result.0, Encoded result.1.now) ≡ opening (Encoded value.now) }
 {
-    if let Section::Encoded(value) = first {
-        if let Some((charset, bytes)) = charset_and_bytes(value) {
-            return (charset, Section::Encoded(bytes));
-        }
+    match charset_and_bytes(value) {
+        Some(parts) => parts,
+        None => (Charset::Utf8, value),
     }
-    (Charset::Utf8, *first)
 }
 
-/// Adds the bytes of a section of a value.
+/// Appends the bytes of a section of a value.
 fn push_section(out: &mut Vec<u8>, section: &Section) -> Result<(), Memory>
     ensures { OnOk result (out.new.items ≡ out.old.items ++ section_bytes (shown section.now)) }
 {
     match section {
-        Section::Plain(bytes) => out.extend_from_slice(bytes)?,
-        Section::Encoded(bytes) => percent_decode(bytes).append_to(out)?,
-    }
-    Ok(())
-}
-
-fn push_sections(out: &mut Vec<u8>, sections: &[Section]) -> Result<(), Memory>
-    ensures { OnOk result (out.new.items ≡ out.old.items ++ flat_map section_bytes (map shown sections.now)) }
-{
-    for section in sections {
-        push_section(out, section)?;
-    }
-    Ok(())
-}
-
-/// The text of sections, if there are any.
-fn sections_text(alloc: Global, sections: &[Section]) -> Result<Option<Text>, Memory>
-    ensures { IfOk result (λ text. text ≡ sections_text (map shown sections.now)) }
-{
-    match sections.split_first() {
-        Some((first, more)) => {
-            let (charset, first) = opening(first);
-            let mut bytes = Vec::new(alloc);
-            push_section(&mut bytes, &first)?;
-            push_sections(&mut bytes, more)?;
-            Ok(Some(to_text(alloc, charset, &bytes)?))
+        Section::Plain(text) => push_value(out, text)?,
+        Section::Encoded(text) => {
+            let value = value_of(*out.allocator(), text)?;
+            percent_decode(&value).append_to(out)?;
         }
-        None => Ok(None),
+    }
+    Ok(())
+}
+
+/// Appends the bytes of the sections of the numbers from 1 on, up to the first that is missing.
+fn push_later_sections(out: &mut Vec<u8>, values: &Values, name: &str) -> Result<(), Memory>
+    ensures { OnOk result (out.new.items
+        ≡ out.old.items ++ flat_map section_bytes (sections_from (held values.now.firsts) name.now 1 values.now.count)) }
+{
+    let alloc = *out.allocator();
+    for number in 1..values.count {
+        match numbered_section(alloc, values, name, number)? {
+            Some(section) => push_section(out, &section)?,
+            None => break,
+        }
+    }
+    Ok(())
+}
+
+/// The charset of a value of which this is the first section, and the bytes of that section.
+fn opened(alloc: Global, first: &Section) -> Result<(Charset, Vec<u8>), Memory>
+    ensures charset { IfOk result (λ p. p.0 ≡ (opening (shown first.now)).0) }
+    ensures bytes { IfOk result (λ p. p.1.items ≡ section_bytes (opening (shown first.now)).1) }
+{
+    match first {
+        Section::Plain(text) => Ok((Charset::Utf8, value_of(alloc, text)?)),
+        Section::Encoded(text) => {
+            let value = value_of(alloc, text)?;
+            let (charset, encoded) = opening(&value);
+            let mut bytes = Vec::new(alloc);
+            percent_decode(encoded).append_to(&mut bytes)?;
+            Ok((charset, bytes))
+        }
+    }
+}
+
+/// The text of an encoded value that is not in sections.
+fn encoded_text(alloc: Global, text: &[u8]) -> Result<Text, Memory>
+    ensures { IfOk result (λ read. Some read ≡ sections_text (Encoded (value_of text.now) ∷ [])) }
+{
+    let (charset, bytes) = opened(alloc, &Section::Encoded(text))?;
+    to_text(alloc, charset, &bytes)
+}
+
+/// The text of the numbered sections, if there are any.
+fn numbered_text(alloc: Global, values: &Values, name: &str) -> Result<Option<Text>, Memory>
+    ensures { IfOk result (λ text. text ≡ sections_text (numbered_sections (held values.now.firsts) values.now.count name.now)) }
+{
+    if values.count == 0 {
+        return Ok(None);
+    }
+    let Some(first) = numbered_section(alloc, values, name, 0)? else {
+        return Ok(None);
+    };
+    let (charset, mut bytes) = opened(alloc, &first)?;
+    push_later_sections(&mut bytes, values, name)?;
+    Ok(Some(to_text(alloc, charset, &bytes)?))
+}
+
+/// The text of `name*`, or else of the numbered sections.
+fn sections_text(alloc: Global, values: &Values, name: &str) -> Result<Option<Text>, Memory>
+    ensures { IfOk result (λ text. text ≡ sections_text (sections (held values.now.firsts) values.now.count name.now)) }
+{
+    let key = format!(in alloc; "{name}*")?;
+    match value_at(values, key.as_str()) {
+        Some(text) => Ok(Some(encoded_text(alloc, text)?)),
+        None => numbered_text(alloc, values, name),
     }
 }
 
 /// The text of the name alone, if it has a value.
 fn plain_text(alloc: Global, values: &Values, name: &str) -> Result<Option<Text>, Memory>
-    ensures { IfOk result (λ text. text ≡ option_map decode_words (held values.now name.now)) }
+    ensures { IfOk result (λ text. text ≡ option_map decode_words (held values.now.firsts name.now)) }
 {
-    match value_named(values, name) {
-        Some(value) => Ok(Some(decode_words(alloc, value)?)),
+    match value_at(values, name) {
+        Some(text) => Ok(Some(decode_words(alloc, &value_of(alloc, text)?)?)),
         None => Ok(None),
     }
 }
 
-/// The value of the parameter of a name, of which `count` parameters as they are written can be sections: that of its
-/// sections (RFC 2231), or else that of the name alone, with encoded words read.
-pub fn param_value(
-    alloc: Global,
-    values: &Values,
-    count: usize,
-    name: &str,
-) -> Result<Option<Text>, Memory>
-    ensures { IfOk result (λ text. text ≡ param_value (held values.now) count name.now) }
+/// The value of the parameter of a name: that of its sections (RFC 2231), or else that of the name alone, with encoded
+/// words read.
+pub fn param_value(alloc: Global, values: &Values, name: &str) -> Result<Option<Text>, Memory>
+    ensures { IfOk result (λ text. text ≡ param_value (held values.now.firsts) values.now.count name.now) }
 {
-    let sections = sections(alloc, values, count, name)?;
-    match sections_text(alloc, &sections)? {
+    match sections_text(alloc, values, name)? {
         Some(text) => Ok(Some(text)),
         None => plain_text(alloc, values, name),
     }

@@ -1,9 +1,9 @@
 //! The segments of the body of a field: what is between two `;`.
-ghost use Rattle.std.specs.Prelude.{◌≡◌, ◌<◌, [], ◌∷◌, IfOk, IfSome, MatchOption, length, map, position};
+ghost use Rattle.std.specs.Prelude.{◌≡◌, ◌<◌, [], ◌∷◌, IfSome, MatchOption, length, position};
 ghost use Rattle.mime_fields.specs.Segments.{ends_word, escaped_after, further_segments, main_word, quoted_after, segments, word_of};
+ghost use Rattle.mime_fields.specs.Views.{segments_in};
 
-use kit::{Memory, begins_quoted_pair, is_white};
-use std::alloc::Global;
+use kit::{begins_quoted_pair, is_white};
 
 /// Whether a quoted string is open after a byte, which may be the second of a quoted-pair.
 fn quoted_after(quoted: bool, escaped: bool, byte: u8) -> bool
@@ -40,19 +40,6 @@ fn split_segment(bytes: &[u8]) -> Option<(&[u8], &[u8])>
     None
 }
 
-fn segments(alloc: Global, body: &[u8]) -> Result<Vec<&[u8]>, Memory>
-    ensures { IfOk result (λ found. map (λ segment. segment.now) found.items ≡ segments body.now) }
-{
-    let mut found = Vec::new(alloc);
-    let mut left = body;
-    while let Some((segment, rest)) = split_segment(left) {
-        found.push(segment)?;
-        left = rest;
-    }
-    found.push(left)?;
-    Ok(found)
-}
-
 fn ends_word(byte: u8) -> bool
     ensures { result ≡ ends_word byte }
 {
@@ -86,12 +73,33 @@ pub fn main_word(body: &[u8]) -> &[u8]
     }
 }
 
-/// The segments after the first `;` outside a quoted string.
-pub fn further_segments(alloc: Global, body: &[u8]) -> Result<Vec<&[u8]>, Memory>
-    ensures { IfOk result (λ found. map (λ segment. segment.now) found.items ≡ further_segments body.now) }
-{
-    match split_segment(body) {
-        Some((_segment, further)) => segments(alloc, further),
-        None => Ok(Vec::new(alloc)),
+/// The segments of a body that are still to be read, from the left.
+#[derive(Clone, Copy)]
+pub struct Segments<'a> {
+    /// What follows the `;` before them; none where none is left.
+    rest: Option<&'a [u8]>,
+}
+
+impl<'a> Segments<'a> {
+    /// The segments after the first `;` outside a quoted string.
+    pub fn further(body: &'a [u8]) -> Self
+        ensures { segments_in result ≡ further_segments body.now }
+    {
+        match split_segment(body) {
+            Some((_segment, rest)) => Segments { rest: Some(rest) },
+            None => Segments { rest: None },
+        }
+    }
+
+    /// The first of them, and those after it: `None` exactly where none is left.
+    pub fn split_first(self) -> Option<(&'a [u8], Self)>
+        ensures { MatchOption result (segments_in self.entry ≡ [])
+            (λ p. segments_in self.entry ≡ p.0.now ∷ segments_in p.1) }
+    {
+        let left = self.rest?;
+        match split_segment(left) {
+            Some((segment, rest)) => Some((segment, Segments { rest: Some(rest) })),
+            None => Some((left, Segments { rest: None })),
+        }
     }
 }

@@ -1,5 +1,6 @@
 -- Lemmas of this crate, and rows that compute.
 pub mod OrderLemmas
 pub mod Texts
+pub mod UpdateLemmas
 mod Rows
 mod UpdateRows

@@ -2,3 +2,5 @@
 pub mod Receipts
 pub mod Updates
 pub mod Orders
+-- What only private functions use.
+pub mod Views

@@ -4,6 +4,7 @@ ghost use Rattle.std.specs.List.{list_all};
 ghost use Rattle.std.specs.Str.{is_utf8};
 ghost use Rattle.serde_json.specs.View.{view, items_view};
 ghost use Rattle.card_type.specs.Rules.{where_some, is_update};
+ghost use Rattle.part_read.specs.Views.{are_objects};
 ghost use Rattle.part_read.specs.Updates.{json, list_in, text_at, update, updates_of, updates};
 
 use crate::fault::UpdateFault;
@@ -14,6 +15,7 @@ use kit::{Memory, Text};
 use lists::Items;
 use serde_json::Value;
 use std::alloc::Global;
+use std::mem;
 
 fn json(alloc: Global, bytes: &[u8]) -> Result<Value, UpdateFault>
     ensures ok { IfOk result (λ value. json bytes.now ≡ Some (view value)) }
@@ -44,26 +46,39 @@ fn update(alloc: Global, object: &Value) -> Result<Update, Memory>
     })
 }
 
-/// The updates of a list, if it is one of objects.
-fn updates_of(alloc: Global, values: &[Value]) -> Result<Option<Items<Update>>, Memory>
-    ensures value { IfOk result (λ read. read ≡ updates_of (items_view values.now)) }
-    ensures rule { IfOk result (λ read. IsTrue (where_some (list_all is_update) read)) }
+/// Whether each value is an object.
+fn are_objects(values: &[Value]) -> bool
+    ensures { result ≡ are_objects (items_view values.now) }
 {
-    let mut found = Items::new(alloc);
     for value in values {
         if !value.is_object() {
-            return Ok(None);
+            return false;
         }
-        found.push(update(alloc, value)?)?;
+    }
+    true
+}
+
+/// The updates of a list, if it is one of objects. Each object is let go once its update is made.
+fn updates_of(alloc: Global, values: Vec<Value>) -> Result<Option<Items<Update>>, Memory>
+    ensures value { IfOk result (λ read. read ≡ updates_of (items_view values.items)) }
+    ensures rule { IfOk result (λ read. IsTrue (where_some (list_all is_update) read)) }
+{
+    if !are_objects(&values) {
+        return Ok(None);
+    }
+    let mut found = Items::new(alloc);
+    for value in values {
+        found.push(update(alloc, &value)?)?;
     }
     Ok(Some(found))
 }
 
-fn list_in(value: &Value) -> Option<&[Value]>
-    ensures { option_map (λ values. items_view values.now) result ≡ list_in (view value.now) }
+/// Takes the list at `updates` out of an object.
+fn take_list(alloc: Global, value: &mut Value) -> Option<Vec<Value>>
+    ensures { option_map (λ values. items_view values.items) result ≡ list_in (view value.old) }
 {
-    let list = value.get("updates").and_then(Value::as_array)?;
-    Some(list.as_slice())
+    let list = value.get_mut("updates")?.as_array_mut()?;
+    Some(mem::replace(list, Vec::new(alloc)))
 }
 
 /// Reads the updates of an app from a value of JSON (RFC 8259): an object whose member `updates` is a list of objects,
@@ -83,8 +98,8 @@ pub fn read_updates(alloc: Global, bytes: &[u8]) -> Result<Items<Update>, Update
     ensures err { IfErr result (λ fault. fault ≢ UpdateFault.Memory → updates bytes.now ≡ Err fault) }
     ensures rules { IfOk result (λ read. IsTrue (list_all is_update read)) }
 {
-    let value = json(alloc, bytes)?;
-    let values = list_in(&value).ok_or(UpdateFault::NoList)?;
+    let mut value = json(alloc, bytes)?;
+    let values = take_list(alloc, &mut value).ok_or(UpdateFault::NoList)?;
     let read = updates_of(alloc, values)?;
     read.ok_or(UpdateFault::NoList)
 }
