@@ -1,6 +1,5 @@
 -- The lines of a header, one after the other.
-use Rattle.std.proofs.Common.{◌≡◌, ℕ, suc, ◌+◌, not, true, false, List, [], ◌∷◌, ◌++◌, length, map, refl, sym, ap, ◌∙◌, arith, length-append}
-use Rattle.std.proofs.lemmas.List.{append-nil}
+use Rattle.std.proofs.Common.{◌≡◌, ℕ, suc, ◌+◌, not, true, false, List, [], ◌∷◌, ◌++◌, length, map, refl, ◌∙◌, arith, length-append}
 use Rattle.std.proofs.lemmas.List.Sums.{take_while-cons}
 use Rattle.kit.specs.Lines.{content}
 use Rattle.mail_headers.specs.Headers.{is_empty, header_lines, header_len}
@@ -22,7 +21,3 @@ pub header_len-empty : (l : List ℕ) (ls : List (List ℕ)) → is_empty (conte
 header_len-empty l ls empty =
     let alone : length (l ++ []) ≡ length l = omega (arith, length-append l []) in
     rw (header_lines-empty l ls empty) alone
-
--- where none are left, those that were found are all
-pub all_found : (found all left : List (List ℕ)) → left ≡ [] → found ++ left ≡ all → found ≡ all
-all_found found all left none so_far = sym (append-nil found) ∙ (ap (λ (ls : List (List ℕ)). found ++ ls) (sym none) ∙ so_far)

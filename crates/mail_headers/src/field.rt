@@ -73,7 +73,8 @@ fn push_field(
 ) -> Result<(), Memory>
     requires { IsFull fields.old }
     ensures full { OnOk result (IsFull fields.new) }
-    ensures fields { OnOk result (all_fields fields.new ≡ all_fields fields.old ++ record { name = name.now; body = trim (rest.now ++ continuation (map content (raw_lines following.now))) } ∷ []) }
+    ensures fields { OnOk result (all_fields fields.new ≡ all_fields fields.old
+        ++ record { name = name.now; body = trim (rest.now ++ continuation (map content (raw_lines following.now))) } ∷ []) }
 {
     if split_continuation(following).is_none() {
         return fields.push(name, trim(rest));
@@ -85,7 +86,7 @@ fn push_field(
 }
 
 /// Puts the field that begins in a line after the last one, if one does. The bytes that follow the line in the
-/// mail may continue it; `unfolded` is overwritten.
+/// mail may continue it. What `unfolded` holds is dropped. Takes memory; `Err` only when it runs out.
 pub fn push_line(
     fields: &mut Fields,
     unfolded: &mut Vec<u8>,
@@ -94,7 +95,8 @@ pub fn push_line(
 ) -> Result<(), Memory>
     requires { IsFull fields.old }
     ensures full { OnOk result (IsFull fields.new) }
-    ensures fields { OnOk result (all_fields fields.new ≡ all_fields fields.old ++ cons_option (field_of line.now (map content (raw_lines following.now))) []) }
+    ensures fields { OnOk result (all_fields fields.new ≡ all_fields fields.old
+        ++ cons_option (field_of line.now (map content (raw_lines following.now))) []) }
 {
     match name_and_rest(line) {
         Some((name, rest)) => push_field(fields, unfolded, name, rest, following),

@@ -7,10 +7,12 @@ ghost use Rattle.mail_headers.specs.Layout.{IsFull, all_fields};
 use kit::{Memory, same_name};
 use std::alloc::Global;
 
-/// How many bytes the name of a field has, and its body after it.
+/// How long a field is, in bytes.
 #[derive(Clone, Copy, Debug)]
 pub struct Lengths {
+    /// How long its name is.
     pub name: usize,
+    /// How long its body is, which follows the name.
     pub body: usize,
 }
 
@@ -20,7 +22,7 @@ pub struct Lengths {
 pub struct Fields {
     /// Of each field its name and then its body, with nothing between them.
     pub bytes: Vec<u8>,
-    /// Of each field how long they are.
+    /// How long each field is, in their order.
     pub lengths: Vec<Lengths>,
 }
 
@@ -51,7 +53,8 @@ impl Fields {
         Ok(())
     }
 
-    /// The body of the first field of a name, where the case of letters does not count. Takes no memory.
+    /// The body of the first field of a name, where the case of ASCII letters does not count: `None` exactly
+    /// where no field has that name. Takes no memory.
     pub fn first(&self, name: &[u8]) -> Option<&[u8]>
         requires { IsFull self.now }
         ensures { option_copied result ≡ option_map (λ field. field.body)
