@@ -99,6 +99,11 @@ module _ {X : Type 0} (alike : X → X → Bool) (trans : (x y z : X) → alike 
         | inr apart ↦ rw (filter_more_passing others once y (rw apart refl), apart, any-filter_same (λ z. alike z y) others true (λ z. apart_with x y z apart) once) refl
       ]
 
+  -- the same, by whether one of the first ones is alike
+  pub firsts_next : (xs once : List X) (y : X) (known : Bool) → once ≡ firsts alike xs → known ≡ list_any (λ x. alike x y) once
+      → firsts alike (xs ++ y ∷ []) ≡ cond known once (once ++ y ∷ [])
+  firsts_next xs once y known so_far is = rw (firsts-push xs y, is, so_far) refl
+
   -- one is alike an element exactly where it is alike a first one
   pub firsts-member : (xs : List X) (y : X) → list_any (λ x. alike x y) (firsts alike xs) ≡ list_any (λ x. alike x y) xs
   firsts-member [] y = refl

@@ -5,7 +5,7 @@ use Rattle.std.proofs.lemmas.Iterator.Adapters.{YieldsList-from_vec}
 use Rattle.std.proofs.lemmas.Iterator.Consumers.{YieldsList-end}
 use Rattle.lists.specs.Distinct.{firsts}
 use Rattle.lists.proofs.DistinctLaws.{firsts_more, member_more}
-use Rattle.lists.proofs.distinct.each_once.Goals as goal
+use Rattle.lists.proofs.distinct.many_once.Goals as goal
 
 pub loop-value-preserved-in_ok-push : goal.loop-value-preserved-in_ok-push
 loop-value-preserved-in_ok-push g c =

@@ -2,7 +2,7 @@ use Rattle.std.proofs.Common.{◌≡◌}
 use Rattle.std.specs.BTreeSet.{contains}
 use Rattle.std.specs.List.{list_any}
 use Rattle.lists.specs.Distinct.{firsts}
-use Rattle.lists.proofs.distinct.each_once.Given as goal
+use Rattle.lists.proofs.distinct.many_once.Given as goal
 
 -- the set has the values so far
 abbrev pub invariant-loop-value : goal.invariant-loop-value
