@@ -38,6 +38,9 @@ fn base_of(alloc: Global, raw_param: RawParam) -> Result<Text, Memory>
     ensures { IfOk result (λ name. name ≡ base_name (written raw_param.entry).name) }
 {
     let name = name_of(alloc, raw_param.name)?;
+    if !name.as_bytes().contains(&b'*') {
+        return Ok(Text::from(name));
+    }
     Ok(Text::from(String::from_str(alloc, base_name(name.as_str()))?))
 }
 
