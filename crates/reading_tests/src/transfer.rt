@@ -2,7 +2,7 @@
 use encoded_words::decode_words;
 use kit::{Charset, charset_of, to_text};
 use std::test::Fail;
-use transfer_code::{Encoding, decode_body, encoding_of, unescaped};
+use transfer_code::{Encoding, decode_body, decoded_len, encoding_of, unescaped};
 
 // the name of a charset, bytes, and their text: `é` is two bytes
 const TEXTS: [(&str, &str, &str); 6] = [
@@ -120,6 +120,22 @@ fn bodies_in_quoted_printable(rt: HostRuntime) -> Result<(), Fail> {
 fn a_plain_body(rt: HostRuntime) -> Result<(), Fail> {
     let decoded = decode_body(rt.alloc(), Encoding::Plain, b"a=3D \r\n")?;
     assert_eq!(rt; decoded.as_slice(), b"a=3D \r\n".as_slice());
+    Ok(())
+}
+
+#[test]
+fn lengths_of_decoded_bodies(rt: HostRuntime) -> Result<(), Fail> {
+    let alloc = rt.alloc();
+    for (body, wanted) in BASE64 {
+        let len = decoded_len(alloc, Encoding::Base64, body.as_bytes())?;
+        assert_eq!(rt; len, wanted.len(), "{body}");
+    }
+    assert_eq!(rt; decoded_len(alloc, Encoding::Base64, &[b'A'; 602])?, 451);
+    assert_eq!(rt;
+        decoded_len(alloc, Encoding::Quoted, b"=e2=82=ac\t\r\n")?,
+        4
+    );
+    assert_eq!(rt; decoded_len(alloc, Encoding::Plain, b"a=3D \r\n")?, 7);
     Ok(())
 }
 
