@@ -1,5 +1,5 @@
 -- A `HashMap` by numbers, as a finite map.
-use Rattle.std.proofs.Common.{◌≡◌, ℕ, List, [], ◌∷◌, Some, None, cond, nat_eq, arith, refl, sym, ap, ◌∙◌}
+use Rattle.std.proofs.Common.{◌≡◌, ℕ, List, [], ◌∷◌, Some, None, cond, nat_eq, arith, refl, sym, ◌∙◌}
 use Rattle.std.specs.Ordering.{nat_cmp, eq_by_cmp}
 use Rattle.std.specs.Map.{lookup}
 use Rattle.std.specs.FinMap.{find, from_entries, insert, remove, get, get-from_entries, get-insert, get-remove, same_map, nat_cmp-IsAntisymmetric}

@@ -1,6 +1,6 @@
 -- The cards of a mailbox, as contracts see them.
 use Rattle.std.specs.Prelude.{ℕ, refl}
-use Rattle.std.specs.Coded.{Coded, codes, code_by, coded×, coded_ℕ}
+use Rattle.std.specs.Coded.{Coded, code_by, coded×, coded_ℕ}
 use Rattle.std.specs.Ordering.{nat_cmp}
 use Rattle.std.specs.FinMap.{FinMap, code}
 use Rattle.card_type.specs.declared.card.Card.{Card}
@@ -10,11 +10,8 @@ pub record Store : Type 0 where
   pub cards : FinMap nat_cmp Card
   pub spare : ℕ
 
--- how a proof tells two of them apart
-abbrev pub card_code : Coded Card
-card_code = Prim.hlevel codes
-
-abbrev pub store_code : Coded Store
-store_code =
-    code_by (FinMap nat_cmp Card × ℕ) (coded× (code coded_ℕ card_code) coded_ℕ) (λ store. (store.cards, store.spare))
+-- how a proof tells two of them apart, where it can tell two cards apart
+abbrev pub store_code : Coded Card → Coded Store
+store_code card =
+    code_by (FinMap nat_cmp Card × ℕ) (coded× (code coded_ℕ card) coded_ℕ) (λ store. (store.cards, store.spare))
     (λ p. record { cards = p.0; spare = p.1 }) (λ _. refl)

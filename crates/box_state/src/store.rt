@@ -20,11 +20,12 @@ pub struct CardStore {
 impl Model for CardStore {
     ghost use Rattle.std.specs.FinMap as map;
     ghost use Rattle.std.specs.HashMap.{spare};
+    ghost use Rattle.card_type.specs.contracts.card.Card as card;
     ghost use Rattle.box_state.specs.Stores.{Store, store_code};
 
     ghost Value = { Store };
 
-    ghost coded = { store_code };
+    ghost coded = { store_code card.the_row.coded };
 
     ghost view = { λ store. record { cards = map.from_entries store.by_uid.entries; spare = spare store.by_uid } };
 }

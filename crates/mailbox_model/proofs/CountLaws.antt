@@ -1,11 +1,11 @@
 -- How many contents there are, and how many updates on any of them.
-use Rattle.std.proofs.Common.{◌≡◌, refl, sym, ap, ◌∙◌, subst, ℕ, ◌+◌, ◌<◌, ◌≤◌, Bool, true, false, not, cond, Option, Some, None, Result, Ok, Err, List, [], ◌∷◌, ◌++◌, length, map, arith, length-append}
-use Rattle.std.specs.Prelude.{if◌then◌else◌, filter_map, filter, sum_by, flat_map}
+use Rattle.std.proofs.Common.{◌≡◌, refl, sym, ap, ◌∙◌, ℕ, ◌+◌, ◌≤◌, Bool, true, false, not, cond, Option, Some, None, Result, Ok, Err, List, [], ◌∷◌, ◌++◌, length, map, arith, length-append}
+use Rattle.std.specs.Prelude.{filter_map, filter, sum_by, flat_map}
 use Rattle.std.specs.List.{concat, cons_option, enumerate_from}
 use Rattle.std.proofs.lemmas.List.{length-map}
 use Rattle.std.proofs.lemmas.List.FromFn.{length-enumerate_from}
 use Rattle.std.proofs.lemmas.List.Sums.{sum_by-cons}
-use Rattle.std.proofs.lemmas.List.Sorted.{length_permutation, sum_by-IsPermutation}
+use Rattle.std.proofs.lemmas.List.Sorted.{sum_by-IsPermutation}
 use Rattle.lists.specs.Distinct.{firsts}
 use Rattle.card_type.specs.declared.card.Card.{Card}
 use Rattle.card_type.specs.declared.card.Payload.{Payload}
@@ -15,7 +15,7 @@ use Rattle.card_type.specs.declared.effect.Effect.TheVariants as effects
 use Rattle.card_type.specs.Kinds.{kind_of, is_content}
 use Rattle.card_type.specs.Records.{weight, envelope, requests, b32, block, flag, opt, list, attachment, payload, update}
 use Rattle.mailbox_model.specs.declared.change.Fault.{Fault}
-use Rattle.mailbox_model.specs.Mailbox.{Mailbox, Entry, weight_read, weights, max_entries, max_total_weight, IsMailbox}
+use Rattle.mailbox_model.specs.Mailbox.{Mailbox, Entry, weight_read, max_entries, max_total_weight, IsMailbox}
 use Rattle.mailbox_model.specs.Present.{Placed, Mail, mail_by, mail_of, mails, same_id, present, present_cards, contents}
 use Rattle.mailbox_model.specs.Rows.{acting, acting_by, brought_by, updates_by}
 use Rattle.mailbox_model.proofs.ActLaws.{sum_by-acting}

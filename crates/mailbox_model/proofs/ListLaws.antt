@@ -21,7 +21,7 @@ use Rattle.mailbox_model.specs.Mailbox.{Mailbox}
 use Rattle.mailbox_model.specs.Present.{Mail, mails, same_id, present, contents}
 use Rattle.mailbox_model.specs.Chats.{Known, known_chat, chats, chat, is_chat, cites, chat_mails}
 use Rattle.mailbox_model.specs.Pages.{keys, page_of, page}
-use Rattle.mailbox_model.specs.ChatList.{list_page, list_row, list_cmp, dated_cmp, latest_cmp}
+use Rattle.mailbox_model.specs.ChatList.{list_page, list_row, list_cmp, latest_cmp}
 use Rattle.lists.proofs.DistinctLaws.{IsDistinct-filter, IsDistinct-firsts}
 use Rattle.lists.proofs.Rising.{Rising, below_of, never_back, apart, second_Equal, sorted_from}
 use Rattle.lists.proofs.Inserts.{agree, None_of, All-insert_by, Placed, Rising-insert_by, find-firsts, list_any-found}

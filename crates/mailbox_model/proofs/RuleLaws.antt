@@ -3,6 +3,7 @@ use Rattle.std.proofs.Common.{◌≡◌, refl, sym, ◌∙◌, ℕ, ◌+◌, ◌
 use Rattle.std.specs.Prelude.{if◌then◌else◌, IfSome, IfOk, IsTrue, filter, nat_le, nat_lt}
 use Rattle.std.specs.List.{AllByRecursion}
 use Rattle.std.specs.Option.{option_or}
+use Rattle.std.specs.Result.{result_ok}
 use Rattle.std.proofs.lemmas.Bool.{or_parts, leb-false, ltb-false}
 use Rattle.std.proofs.lemmas.List.{length-append, length-map}
 use Rattle.std.proofs.lemmas.List.Sums.{sum_by-cons, sum_by_push}
@@ -13,8 +14,18 @@ use Rattle.mailbox_model.specs.declared.change.Fault.{Fault}
 use Rattle.mailbox_model.specs.declared.change.Change.{Change}
 use Rattle.mailbox_model.specs.declared.change.Change.TheVariants.{Arrive, ArriveFault, Expunge, Seen, At}
 use Rattle.mailbox_model.specs.Lists.{Bytes}
-use Rattle.mailbox_model.specs.Mailbox.{Mailbox, Entry, empty_mailbox, new_entry, with_arrival, has_uid, mark_entry, after, after_all, weight_read, weights, lacks_room, full, max_entries, max_total_weight, end_of_uids, RiseBelow, IsEntry, IsMailbox, IsValidChange, AreAllowed}
+use Rattle.mailbox_model.specs.Mailbox.{Mailbox, Entry, entry_of, item_of, empty_mailbox, new_entry, with_arrival, has_uid, mark_entry, after, after_all, weight_read, weights, lacks_room, full, max_entries, max_total_weight, end_of_uids, RiseBelow, IsEntry, IsMailbox, IsValidChange, AreAllowed}
 use Rattle.lists.proofs.Inserts.{All-filter}
+
+pub entry_again : (entry : Entry) → entry_of (item_of entry) (result_ok entry.read) ≡ Some entry
+entry_again entry = by entry.read
+  where
+    with_read : Result Card Fault → Entry
+    with_read read = record entry { read = read }
+
+    by : (read : Result Card Fault) → entry_of (item_of (with_read read)) (result_ok read) ≡ Some (with_read read)
+    by (Ok card) = refl
+    by (Err fault) = refl
 
 pub empty_keeps : (me : Bytes) → IsMailbox (empty_mailbox me)
 empty_keeps me =

@@ -1,8 +1,8 @@
 -- The turn is Nothing exactly where the present mails and the moment stay as they are.
-use Rattle.std.proofs.Common.{◌≡◌, ◌↔◌, refl, sym, ap, ◌∙◌, subst, ℕ, ◌+◌, ◌<◌, ◌≤◌, Bool, true, false, cond, Option, Some, None, List, [], ◌∷◌, length, map, min, arith}
-use Rattle.std.specs.Prelude.{if◌then◌else◌, filter, ◌==◌, IfSome, IfOk, IsTrue, Result, Ok, Err}
-use Rattle.std.specs.List.{AllByRecursion, Contains}
-use Rattle.std.specs.Option.{option_map_or, option_or}
+use Rattle.std.proofs.Common.{◌≡◌, ◌↔◌, refl, sym, ap, ◌∙◌, subst, ℕ, ◌+◌, ◌≤◌, Bool, true, false, cond, Option, Some, None, List, [], ◌∷◌, length, map, arith}
+use Rattle.std.specs.Prelude.{if◌then◌else◌, filter, IfSome, Result, Ok, Err}
+use Rattle.std.specs.List.{AllByRecursion}
+use Rattle.std.specs.Option.{option_or}
 use Rattle.std.specs.declared.cmp.Ordering.{Ordering}
 use Rattle.std.specs.Ordering.{is_lt}
 use Rattle.std.proofs.lemmas.Bool.{eq-eqb, ne_eqb}
@@ -15,7 +15,7 @@ use Rattle.mailbox_model.specs.declared.turn.Turn.{Turn}
 use Rattle.mailbox_model.specs.declared.turn.Turn.TheVariants.{Nothing, Add, Remove, Replace, Marked, Moved}
 use Rattle.mailbox_model.specs.Mailbox.{Mailbox, Entry, after, IsEntry, IsMailbox}
 use Rattle.mailbox_model.specs.Present.{Mail, effective_date, mail_by, mail_of, mail_cmp, present}
-use Rattle.mailbox_model.specs.Turns.{is_mail, mark_mail, with_mail, turn, Turns, MovesClock, IsTurn}
+use Rattle.mailbox_model.specs.Turns.{is_mail, mark_mail, with_mail, turn, Turns, MovesClock}
 use Rattle.mailbox_model.proofs.TurnLaws.{turn_law}
 use Rattle.mailbox_model.proofs.UidLaws.{present_each}
 

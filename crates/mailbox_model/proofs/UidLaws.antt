@@ -1,6 +1,6 @@
 -- Uids: each entry and each mail is found by its own, and a uid never names a second card.
 use Rattle.std.proofs.Common.{◌≡◌, refl, sym, ap, ◌∙◌, subst, ℕ, ◌+◌, ◌<◌, ◌≤◌, Bool, true, false, not, cond, Option, Some, None, Result, Ok, Err, List, [], ◌∷◌, ◌++◌, map, arith, inl, inr}
-use Rattle.std.specs.Prelude.{if◌then◌else◌, filter_map, filter, find, ◌==◌, IfSome}
+use Rattle.std.specs.Prelude.{if◌then◌else◌, filter_map, filter, find, IfSome}
 use Rattle.std.specs.List.{AllByRecursion, IsDistinct, cons_option}
 use Rattle.std.specs.Option.{option_and_then}
 use Rattle.std.specs.Result.{result_ok}
@@ -17,7 +17,7 @@ use Rattle.mailbox_model.specs.declared.change.Fault.{Fault}
 use Rattle.mailbox_model.specs.declared.change.Change.{Change}
 use Rattle.mailbox_model.specs.declared.change.Change.TheVariants.{Arrive, ArriveFault, Expunge, Seen, At}
 use Rattle.mailbox_model.specs.Mailbox.{Mailbox, Entry, new_entry, has_uid, mark_entry, marked_at, entry_at, card_at, after, after_all, RiseBelow}
-use Rattle.mailbox_model.specs.Present.{Mail, placed_by, mail_by, mail_of, mail_at, mail_cmp, mails, same_id, present, same_uid}
+use Rattle.mailbox_model.specs.Present.{Mail, mail_by, mail_of, mail_at, mail_cmp, mails, same_id, present, same_uid}
 use Rattle.mailbox_model.proofs.MailLaws.{line_of}
 
 -- ---- each entry is found by its uid

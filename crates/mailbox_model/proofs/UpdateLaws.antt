@@ -1,12 +1,11 @@
 -- The updates of a row: their serials run from 1, and each is one place in one mail.
-use Rattle.std.proofs.Common.{◌≡◌, ◌≢◌, refl, sym, ap, ◌∙◌, subst, ℕ, ◌+◌, ◌<◌, ◌≤◌, Bool, true, false, ◌&&◌, List, [], ◌∷◌, ◌++◌, length, map, arith}
+use Rattle.std.proofs.Common.{◌≡◌, refl, ap, ◌∙◌, ℕ, ◌+◌, ◌<◌, Bool, true, false, ◌&&◌, List, [], ◌∷◌, ◌++◌, length, map, arith}
 use Rattle.std.specs.Prelude.{◌==◌, flat_map}
 use Rattle.std.specs.List.{AllByRecursion, IsDistinct, enumerate_from, range_with_len}
 use Rattle.std.proofs.lemmas.Bool.{ne_eqb}
 use Rattle.card_type.specs.declared.card.Card.{Card}
 use Rattle.card_type.specs.declared.card.Update.{Update}
 use Rattle.card_type.specs.declared.effect.Effect.TheVariants as effects
-use Rattle.mailbox_model.specs.declared.row.UpdateRow.{UpdateRow}
 use Rattle.mailbox_model.specs.Mailbox.{Mailbox, RiseBelow}
 use Rattle.mailbox_model.specs.Present.{Placed, Mail, present, present_cards, same_uid}
 use Rattle.mailbox_model.specs.Rows.{Brought, acting, acting_by, brought_by, update_row, updates_by, same_part}

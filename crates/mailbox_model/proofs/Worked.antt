@@ -1,6 +1,6 @@
 -- Worked mailboxes: what is asked of each, and the text that answers it, computed from the definitions.
 use Rattle.std.proofs.Common.{◌≡◌, refl, ℕ, true, false, Some, None, List, [], ◌∷◌, ◌++◌}
-use Rattle.std.specs.Prelude.{codes}
+use Rattle.std.specs.Prelude.{codes, map}
 use Rattle.std.specs.Fmt.{digits}
 use Rattle.std.specs.Str.{chars}
 use lib.Utf8.{encode}
@@ -10,7 +10,12 @@ use Rattle.mailbox_model.specs.declared.change.Change.TheVariants.{Arrive, Arriv
 use Rattle.mailbox_model.specs.declared.change.Fault.TheVariants.{NoFrom}
 use Rattle.card_type.specs.declared.spot.Spot.{Spot}
 use Rattle.mailbox_model.specs.declared.turn.Turn.TheVariants.{Nothing, Add, Remove, Replace, Marked, Moved}
-use Rattle.mailbox_model.specs.Mailbox.{Mailbox, empty_mailbox, after_all, full}
+use Rattle.mailbox_model.specs.declared.item.Held.TheVariants as is_held
+use Rattle.mailbox_model.specs.Mailbox.{Mailbox, empty_mailbox, after_all, card_at, entry_of, full, item_at}
+use Rattle.mailbox_model.specs.Present.{present_cards, spot_of}
+use Rattle.mailbox_model.specs.Chats.{cites, moves}
+use Rattle.mailbox_model.specs.Rows.{naming}
+use Rattle.mailbox_model.specs.States.{chat_cards, fresh_among, last_spot}
 use Rattle.mailbox_model.specs.Turns.{turn}
 use Rattle.mailbox_model.specs.Times.{time_text, civil_date, span_and_rest}
 use Rattle.mailbox_model.specs.Answers.{answer}
@@ -316,6 +321,53 @@ turn_clock = refl
 
 turn_clock_back : turn (box (noon ∷ [])) (At 1000) ≡ Nothing
 turn_clock_back = refl
+
+-- what a uid and an id lead to
+first_copy : spot_of (box (noon ∷ Arrive M1 ∷ Arrive M2 ∷ [])) (codes "m1@x.org") ≡ Some (spot (at 9 0) 2)
+first_copy = refl
+
+no_copy : spot_of (box (noon ∷ [])) (codes "m1@x.org") ≡ None
+no_copy = refl
+
+hidden_copy : card_at (box (noon ∷ Arrive M1 ∷ Arrive M2 ∷ [])) 1 ≡ Some M1
+hidden_copy = refl
+
+expunged : card_at (box (noon ∷ Arrive M1 ∷ Expunge 1 ∷ Arrive M2 ∷ [])) 1 ≡ None
+expunged = refl
+
+seen_item : item_at (box (noon ∷ Arrive M1 ∷ At 1714564801 ∷ Seen 1 ∷ [])) 1
+    ≡ Some (record { uid = 1; arrival = 1714564800; seen = Some 1714564801; held = is_held.Card })
+seen_item = refl
+
+item_of_fault : item_at (box (noon ∷ ArriveFault NoFrom ∷ [])) 1
+    ≡ Some (record { uid = 1; arrival = 1714564800; seen = None; held = is_held.Fault NoFrom })
+item_of_fault = refl
+
+no_card_for_it : entry_of (record { uid = 1; arrival = 0; seen = None; held = is_held.Card }) None ≡ None
+no_card_for_it = refl
+
+-- a parent that comes late takes its answers with it, the one that comes among them
+moved_by_parent : (
+    let sooner = cites (box (noon ∷ Arrive R1 ∷ Arrive R2 ∷ [])) in
+    let later = cites (box (noon ∷ Arrive R1 ∷ Arrive R2 ∷ Arrive G1 ∷ [])) in
+    moves later sooner later
+    )
+    ≡ record { id = codes "g1@x.org"; before = None; after = Some (Group trip) }
+    ∷ record { id = codes "r1@x.org"; before = Some (Thread (codes "g1@x.org")); after = Some (Group trip) }
+    ∷ record { id = codes "r2@x.org"; before = Some (Thread (codes "g1@x.org")); after = Some (Group trip) }
+    ∷ []
+moved_by_parent = refl
+
+-- what names a mail, in mail order, and where the last shown card of a chat is
+named : map (λ p. p.uid) (naming (codes "m1@x.org") (present_cards (box (noon ∷ Arrive E1 ∷ Arrive M1 ∷ Arrive E2 ∷ Arrive O1 ∷ []))))
+    ≡ 3 ∷ 1 ∷ []
+named = refl
+
+last_shown : last_spot (chat_cards (box (noon ∷ Arrive M1 ∷ [])) (Single bob)) ≡ Some (spot (at 10 0) 1)
+last_shown = refl
+
+one_is_fresh : fresh_among (chat_cards (box (noon ∷ Arrive M1 ∷ [])) (Single bob)) ≡ 1
+one_is_fresh = refl
 
 -- the last uid that a mail can have is 4,294,967,294
 last_uid : full (record (box []) { next_uid = 4294967294 }) (ArriveFault NoFrom) ≡ false

@@ -3,6 +3,7 @@
 ghost use Rattle.std.specs.Prelude.{◌≡◌, ◌↔◌, ◌⊎◌, ◌<◌, ◌≤◌, ℕ, pos, false, true, Some, None, List, [], ◌∷◌, ◌++◌, length, map, find, filter_map, option_and_then, option_map, is_some, if◌then◌else◌, IfSome, max};
 ghost use Rattle.std.specs.List.{AllByRecursion, list_any, IsDistinct, range_with_len};
 ghost use Rattle.std.specs.List.Sorted.{IsStrictlySortedBy, IsPermutation};
+ghost use Rattle.std.specs.Result.{result_ok};
 ghost use Rattle.std.specs.Str.{bytes_eq};
 ghost use Rattle.jiff_core.specs.declared.civil.date.Date.{Date};
 ghost use Rattle.jiff_core.specs.Date.{epoch_day, IsYmd};
@@ -14,7 +15,7 @@ ghost use Rattle.mailbox_model.specs.declared.change.Change.{Change};
 ghost use Rattle.mailbox_model.specs.declared.links.Cites.{Cites};
 ghost use Rattle.mailbox_model.specs.declared.turn.Turn.TheVariants.{Nothing};
 ghost use Rattle.mailbox_model.specs.Lists.{Bytes};
-ghost use Rattle.mailbox_model.specs.Mailbox.{Mailbox, empty_mailbox, card_at, after, after_all, full, max_entries, max_total_weight, IsMailbox, IsValidChange, AreAllowed};
+ghost use Rattle.mailbox_model.specs.Mailbox.{Mailbox, Entry, entry_of, item_of, empty_mailbox, card_at, after, after_all, full, max_entries, max_total_weight, IsMailbox, IsValidChange, AreAllowed};
 ghost use Rattle.mailbox_model.specs.Present.{Placed, Mail, mail_of, mail_at, mail_cmp, mails, has_id, same_id, same_uid, present, contents};
 ghost use Rattle.mailbox_model.specs.Turns.{turn, IsTurn};
 ghost use Rattle.mailbox_model.specs.Chats.{cites, chat, chat_among, chat_from, chat_mails, is_id_among, parent_among, DistinctIds, KeepRule};
@@ -56,6 +57,11 @@ pub fn present_is_in_order()
     ensures once { (m : Mailbox) → IsDistinct same_id (present m) }
     ensures present { (m : Mailbox) → IsMailbox m → IsStrictlySortedBy mail_cmp (present m) }
     ensures dates { (m : Mailbox) → IsMailbox m → AllByRecursion (λ t. t.placed.date ≤ m.now) (present m) }
+{}
+
+/// An item and its card make the entry again, and where it holds a fault, the item alone does.
+pub fn items_and_cards_make_entries()
+    ensures { (entry : Entry) → entry_of (item_of entry) (result_ok entry.read) ≡ Some entry }
 {}
 
 /// A uid names one mail.

@@ -1,4 +1,4 @@
-use Rattle.std.proofs.Common.{sym, ap, ◌∙◌}
+use Rattle.std.proofs.Common.{ap, ◌∙◌}
 use Rattle.std.specs.FinMap as map
 use Rattle.box_state.proofs.UidMaps.{inserted_uid}
 use Rattle.box_state.proofs.store.CardStore.insert.Goals as goal

@@ -1,5 +1,4 @@
-use Rattle.std.proofs.Common.{sym, ap, ◌∙◌}
-use Rattle.std.specs.FinMap as map
+use Rattle.std.proofs.Common.{ap, ◌∙◌}
 use Rattle.box_state.proofs.UidMaps.{same_uids}
 use Rattle.box_state.proofs.store.CardStore.reserve.Goals as goal
 
