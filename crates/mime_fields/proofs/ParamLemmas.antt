@@ -1,6 +1,6 @@
 -- The parameters of names, one after the other.
-use Rattle.std.proofs.Common.{◌≡◌, ℕ, true, false, List, [], ◌∷◌, ◌++◌, map, Option, Some, None, refl, sym, ap, ◌∙◌, append_assoc, arith, Bool, cond, not, ◌+◌, suc, take}
-use Rattle.std.specs.List.{before_first, filter_map, list_any, position_or_len, range_with_len, starts_with}
+use Rattle.std.proofs.Common.{◌≡◌, ℕ, true, List, [], ◌∷◌, ◌++◌, map, Option, Some, None, refl, sym, ap, ◌∙◌, append_assoc, arith}
+use Rattle.std.specs.List.{filter_map, range_with_len, starts_with}
 use Rattle.std.specs.Option.{option_or}
 use Rattle.std.specs.Prelude.{codes, decimal, nat_eq, option_map, unwrap_or}
 use Rattle.std.proofs.lemmas.List.{append-nil}
@@ -10,7 +10,6 @@ use Rattle.mime_fields.specs.Params.{param_in, value_in}
 use Rattle.mime_fields.specs.Sections.{Plain, Encoded, Section, before_gap, numbered_section, numbered_sections, param_value, sections, sections_text}
 use Rattle.mime_fields.specs.Views.{first_value_under}
 use Rattle.encoded_words.specs.Runs.{decode_words}
-use Rattle.std.proofs.lemmas.Bool.{or_parts}
 use Rattle.std.proofs.lemmas.Bool.Decides.{nat_tests}
 
 pub param_some : (raw_params : List RawParam) (names : List (List ℕ)) (name value : List ℕ) → value_in raw_params name ≡ Some value
@@ -52,14 +51,3 @@ pub value_under_name : (params : List RawParam) (count : ℕ) (name : List ℕ)
     → param_value (first_value_under name params) count name ≡ param_value (first_value params) count name
 value_under_name params count name =
     same_value (first_value_under name params) (first_value params) name (λ more. rw (begins_itself name more) refl) count
-
-onto_rest : (star : Bool) (b n : ℕ) (name : List ℕ) → star ≡ false → take n name ≡ name → take (cond (not star) (1 + n) 0) (b ∷ name) ≡ b ∷ name
-onto_rest true b n name other is = absurd cc
-onto_rest false b n name other is = (let more : 1 + n ≡ suc n = omega arith in ap (λ k. take k (b ∷ name)) more ∙ ap (λ bs. b ∷ bs) is)
-
--- a full name without a `*` is that of its parameter
-pub whole_name : (name : List ℕ) → list_any (λ b. nat_eq b 42) name ≡ false → before_first (λ b. nat_eq b 42) name ≡ name
-whole_name [] none = refl
-whole_name (b ∷ name) none =
-    let parts = or_parts (nat_eq b 42) (list_any (λ c. nat_eq c 42) name) none in
-    onto_rest (nat_eq b 42) b (position_or_len (λ c. nat_eq c 42) name) name parts.0 (whole_name name parts.1)

@@ -1,12 +1,13 @@
 -- The first value of each name, one parameter after the other.
 use Rattle.std.proofs.Common.{◌≡◌, ℕ, suc, ◌+◌, ◌≤◌, Bool, true, false, cond, List, [], ◌∷◌, length, Option, Some, None, refl, sym, ap, ◌∙◌, inl, inr, rules, arith}
 use Rattle.std.specs.Borrow.{Bor}
-use Rattle.std.specs.BTreeMap.{BTreeMap, get_by_text}
+use Rattle.std.specs.BTreeMap.{BTreeMap, get_by}
 use Rattle.std.specs.Prelude.{◌&&◌, ◌==◌, not, bytes_eq, is_some, option_map}
 use Rattle.std.specs.List.{cons_option, filter_map, onto_first}
 use Rattle.std.specs.Map.{update}
 use Rattle.std.specs.Option.{option_or}
-use Rattle.std.specs.declared.string.String.{String}
+use Rattle.std.specs.Cmp.Lexicographic.{slice_cmp}
+use Rattle.std.specs.Ordering.{nat_cmp}
 use Rattle.std.proofs.lemmas.Bool.{cases_Bool}
 use Rattle.std.proofs.lemmas.Cmp.{nat_list_eq_equiv}
 use Rattle.std.proofs.lemmas.Slice.Eq.{bytes_eq-Decides}
@@ -26,19 +27,23 @@ none_is : {A : Type 0} (o : Option A) → is_some o ≡ false → o ≡ None
 none_is None h = refl
 none_is (Some x) h = absurd cc
 
+-- what a map has at a name
+abbrev pub found_in : BTreeMap (Bor (List ℕ)) (Bor (List ℕ)) → List ℕ → Option (Bor (List ℕ))
+found_in firsts name = get_by (λ k. slice_cmp nat_cmp name k.now) firsts
+
 -- a key that the map had not was put
-pub held-put : {A : Type 0} (old new : BTreeMap (String A) (Bor (List ℕ))) (key : List ℕ) (value : Bor (List ℕ))
-    → is_some (get_by_text old key) ≡ false
-    → ((q : List ℕ) → get_by_text new q ≡ update bytes_eq (get_by_text old) key (Some value) q)
+pub held-put : (old new : BTreeMap (Bor (List ℕ)) (Bor (List ℕ))) (key : List ℕ) (value : Bor (List ℕ))
+    → is_some (found_in old key) ≡ false
+    → ((q : List ℕ) → found_in new q ≡ update bytes_eq (found_in old) key (Some value) q)
     → (q : List ℕ) → held new q ≡ option_or (held old q) (cond (bytes_eq q key) (Some (value_of value.now)) None)
 held-put old new key value none put q =
     let swapped : bytes_eq key q ≡ bytes_eq q key = nat_list_eq_equiv.symm key q in
     ap (option_map (λ v. value_of v.now)) (put q)
-    ∙ option_map-cond (λ (v : Bor (List ℕ)). value_of v.now) (bytes_eq key q) (Some value) (get_by_text old q)
+    ∙ option_map-cond (λ (v : Bor (List ℕ)). value_of v.now) (bytes_eq key q) (Some value) (found_in old q)
     ∙ elim (cases_Bool (bytes_eq q key)) [
       | inl same ↦ (
           let is : q ≡ key = search (rules, bytes_eq-Decides) in
-          let nothing : get_by_text old q ≡ None = ap (get_by_text old) is ∙ none_is (get_by_text old key) none in
+          let nothing : found_in old q ≡ None = ap (found_in old) is ∙ none_is (found_in old key) none in
           rw (swapped, same, nothing) refl)
       | inr apart ↦ rw (swapped, apart) (sym (or-None (held old q)))
     ]

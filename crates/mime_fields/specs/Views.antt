@@ -1,10 +1,13 @@
 -- What contracts see of values that the program holds.
-use Rattle.std.specs.Prelude.{ℕ, ◌-◌, nat_eq, if◌then◌else◌, List, [], map, filter_map, bytes_eq, Option, Some, None, option_map}
+use Rattle.std.specs.Prelude.{◌≡◌, ℕ, ◌-◌, Bool, nat_eq, if◌then◌else◌, List, [], map, filter_map, flat_map, bytes_eq, Option, Some, None, option_map}
 use Rattle.std.specs.Borrow.{Bor}
-use Rattle.std.specs.BTreeMap.{BTreeMap, get_by_text}
+use Rattle.std.specs.BTreeMap.{BTreeMap, get_by}
+use Rattle.std.specs.BTreeSet.{BTreeSet, contains_by}
+use Rattle.std.specs.Cmp.Lexicographic.{slice_cmp}
 use Rattle.std.specs.List.{range_with_len, starts_with}
 use Rattle.std.specs.Option.{option_map_or}
-use Rattle.std.specs.declared.string.String.{String}
+use Rattle.std.specs.Ordering.{nat_cmp}
+use Rattle.mime_fields.specs.declared.named.NamedParams.{NamedParams}
 use Rattle.mime_fields.specs.declared.raw_param.RawParam.{RawParam as Borrowed_param}
 use Rattle.mime_fields.specs.declared.section.Section as Borrowed
 use Rattle.mime_fields.specs.declared.section.Section.TheVariants as code
@@ -30,9 +33,29 @@ abbrev pub shown : Borrowed.Section → Section
 shown (code.Plain text) = Plain (value_of text.now)
 shown (code.Encoded text) = Encoded (value_of text.now)
 
+-- a full name, and the value that follows its `=`
+abbrev pub under : (name text : List ℕ) → RawParam
+under name text = record { name = name; value = value_of text }
+
+-- the full names of parameters, one after the other
+abbrev pub names_text : List RawParam → List ℕ
+names_text params = flat_map (λ param. param.name) params
+
+-- the names are those of the parameters
+abbrev pub AreNamed : NamedParams → Type 0
+AreNamed left = left.names.now ≡ names_text (params_in left.left)
+
+-- names that are borrowed
+abbrev pub shown_names : List (Bor (List ℕ)) → List (List ℕ)
+shown_names names = map (λ name. name.now) names
+
 -- the value that a map has of a name
-abbrev pub held : {A : Type 0} → BTreeMap (String A) (Bor (List ℕ)) → List ℕ → Option (List ℕ)
-held firsts name = option_map (λ text. value_of text.now) (get_by_text firsts name)
+abbrev pub held : BTreeMap (Bor (List ℕ)) (Bor (List ℕ)) → List ℕ → Option (List ℕ)
+held firsts name = option_map (λ text. value_of text.now) (get_by (λ k. slice_cmp nat_cmp name k.now) firsts)
+
+-- whether a set has a name
+abbrev pub known : BTreeSet (Bor (List ℕ)) → List ℕ → Bool
+known seen name = contains_by (λ k. slice_cmp nat_cmp name k.now) seen
 
 -- the value that a parameter gives a name, and the first of several, where only names that begin with a prefix count
 abbrev pub value_under : (prefix : List ℕ) → RawParam → List ℕ → Option (List ℕ)

@@ -4,6 +4,7 @@
 
 mod content_type;
 mod disposition;
+mod named;
 mod param;
 mod raw_param;
 mod section;

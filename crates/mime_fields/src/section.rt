@@ -1,14 +1,13 @@
 //! Parameters in sections and in a charset of their own (RFC 2231).
 ghost use Rattle.std.specs.Prelude.{◌≡◌, ◌++◌, ◌∷◌, ℕ, List, [], IfOk, OnOk, Some, None, bytes_eq, flat_map, if◌then◌else◌, length, option_map};
 ghost use Rattle.std.specs.Option.{option_or};
-ghost use Rattle.std.specs.String.{string_bytes};
 ghost use Rattle.encoded_words.specs.Runs.{decode_words};
 ghost use Rattle.mime_fields.specs.RawParams.{raw_params, value_of};
 ghost use Rattle.mime_fields.specs.Sections.{Encoded, charset_and_bytes, named_charset, numbered_section, numbered_sections, opening, param_value, section_bytes, sections, sections_text};
-ghost use Rattle.mime_fields.specs.Views.{first_value_under, held, sections_from, shown, value_under, written};
+ghost use Rattle.mime_fields.specs.Views.{first_value_under, held, names_text, sections_from, shown, under, value_under};
 
-use crate::raw_param::{RawParam, name_of, next_param, push_value, value_of};
-use crate::segment::Segments;
+use crate::named::NamedParams;
+use crate::raw_param::{push_value, value_of};
 use encoded_words::decode_words;
 use kit::{Charset, Memory, Text, charset_of, split_once, to_text};
 use percent_encoding::percent_decode;
@@ -16,7 +15,7 @@ use std::alloc::Global;
 use std::collections::BTreeMap;
 
 /// What follows the `=` of the first parameter of each full name, as `title*1*`.
-type Firsts<'a> = BTreeMap<String, &'a [u8]>;
+type Firsts<'a> = BTreeMap<&'a str, &'a [u8]>;
 
 /// The values of the parameters of a field.
 #[derive(Drop)]
@@ -37,43 +36,49 @@ enum Section<'a> {
 }
 
 /// Puts a value under a name that has none.
-fn put<'a>(firsts: &mut Firsts<'a>, name: String, value: &'a [u8]) -> Result<(), Memory>
+fn put_first<'a>(firsts: &mut Firsts<'a>, name: &'a str, value: &'a [u8]) -> Result<(), Memory>
     ensures { OnOk result ((q : List ℕ) → held firsts.new q
-        ≡ option_or (held firsts.old q) (if bytes_eq q (string_bytes name) then Some (value_of value.now) else None)) }
+        ≡ option_or (held firsts.old q) (if bytes_eq q name.now then Some (value_of value.now) else None)) }
 {
-    if !firsts.contains_key(name.as_str()) {
+    if !firsts.contains_key(name) {
         firsts.insert(name, value)?;
     }
     Ok(())
 }
 
-/// Puts the value of a parameter under its full name, if that begins with a prefix and has none.
-fn put_param<'a>(
-    alloc: Global,
+/// Puts a value under a name, if that begins with a prefix and has none.
+fn put<'a>(
     firsts: &mut Firsts<'a>,
     prefix: &[u8],
-    raw_param: RawParam<'a>,
+    name: &'a str,
+    value: &'a [u8],
 ) -> Result<(), Memory>
     ensures { OnOk result ((q : List ℕ) → held firsts.new q
-        ≡ option_or (held firsts.old q) (value_under prefix.now (written raw_param.entry) q)) }
+        ≡ option_or (held firsts.old q) (value_under prefix.now (under name.now value.now) q)) }
 {
-    let name = name_of(alloc, raw_param.name)?;
     if name.as_bytes().starts_with(prefix) {
-        put(firsts, name, raw_param.value)?;
+        put_first(firsts, name, value)?;
     }
     Ok(())
 }
 
-/// The values of the parameters in the body of a field, of those whose full names begin with a prefix.
-pub fn values_in<'a>(alloc: Global, prefix: &[u8], body: &'a [u8]) -> Result<Values<'a>, Memory>
+/// The values of the parameters in the body of a field, of those whose full names begin with a prefix. The names are
+/// those of all of its parameters.
+pub fn values_in<'a>(
+    alloc: Global,
+    prefix: &[u8],
+    names: &'a str,
+    body: &'a [u8],
+) -> Result<Values<'a>, Memory>
+    requires { names.now ≡ names_text (raw_params body.now) }
     ensures firsts { IfOk result (λ values. held values.firsts ≡ first_value_under prefix.now (raw_params body.now)) }
     ensures count { IfOk result (λ values. values.count ≡ length (raw_params body.now)) }
 {
     let mut firsts = BTreeMap::new(alloc);
     let mut count = 0;
-    let mut left = Segments::further(body);
-    while let Some((raw_param, rest)) = next_param(left) {
-        put_param(alloc, &mut firsts, prefix, raw_param)?;
+    let mut left = NamedParams::new(names, body);
+    while let Some((name, value, rest)) = left.split_first(alloc)? {
+        put(&mut firsts, prefix, name, value)?;
         count += 1;
         left = rest;
     }
