@@ -3,5 +3,3 @@
 
 #[cfg(test)]
 mod cards;
-#[cfg(test)]
-mod kept;
