@@ -35,7 +35,7 @@ known_chat-append (k ∷ known) more id =
       | false ↦ known_chat-append known more id
     ]
 
-or_none : {X : Type 0} (o : Option X) → option_or o None ≡ o
+pub or_none : {X : Type 0} (o : Option X) → option_or o None ≡ o
 or_none None = refl
 or_none (Some x) = refl
 

@@ -3,6 +3,7 @@ use Rattle.std.proofs.Common.{◌≡◌, refl, sym, ap, ◌∙◌, ℕ, ◌+◌,
 use Rattle.std.specs.Prelude.{filter_map, filter, sum_by, flat_map}
 use Rattle.std.specs.List.{concat, cons_option, enumerate_from}
 use Rattle.std.proofs.lemmas.List.{length-map}
+use Rattle.std.proofs.lemmas.List.Filters.{sum_by-filter_both}
 use Rattle.std.proofs.lemmas.List.FromFn.{length-enumerate_from}
 use Rattle.std.proofs.lemmas.List.Sums.{sum_by-cons}
 use Rattle.std.proofs.lemmas.List.Sorted.{sum_by-IsPermutation}
@@ -25,14 +26,7 @@ use Rattle.mailbox_model.proofs.PresentLaws.{mails_all}
 
 module _ {X : Type 0} (f : X → ℕ) where
   sum_by-filter : (p : X → Bool) (xs : List X) → sum_by f (filter p xs) ≤ sum_by f xs
-  sum_by-filter p [] = omega arith
-  sum_by-filter p (x ∷ xs) =
-      let rest = sum_by-filter p xs in
-      let whole = sum_by-cons f x xs in
-      elim (p x) as (λ b. sum_by f (cond b (x ∷ filter p xs) (filter p xs)) ≤ sum_by f (x ∷ xs)) [
-        | true ↦ omega (arith, rest, whole, sum_by-cons f x (filter p xs))
-        | false ↦ omega (arith, rest, whole)
-      ]
+  sum_by-filter p xs = omega (arith, sum_by-filter_both p (λ x. not (p x)) (λ x. refl) f xs)
 
   sum_by-firsts : (same : X → X → Bool) (xs : List X) → sum_by f (firsts same xs) ≤ sum_by f xs
   sum_by-firsts same [] = omega arith

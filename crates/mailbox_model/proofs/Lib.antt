@@ -1,4 +1,5 @@
 -- Laws of the definitions, and rows that compute.
+pub mod Elements
 pub mod MailLaws
 pub mod TurnLaws
 pub mod ChatLaws

@@ -5,6 +5,7 @@ use Rattle.std.specs.List.{AllByRecursion, IsDistinct, list_any}
 use Rattle.std.specs.Option.{option_map, option_map_or, option_or, option_and_then, option_to_list}
 use Rattle.std.specs.Str.{bytes_eq}
 use Rattle.std.proofs.lemmas.Bool.{false≢true, lt-ltb}
+use Rattle.std.proofs.lemmas.List.{map-append}
 use Rattle.lists.specs.Distinct.{each_once}
 use Rattle.lists.proofs.DistinctLaws.{IsDistinct-filter, IsDistinct-firsts}
 use Rattle.lists.proofs.Inserts.{None_of, filter_none, All-firsts, found_all, found_passes, list_any-found}
@@ -24,6 +25,7 @@ use Rattle.mailbox_model.specs.Chats.{people, others, direct_chat, own_chat, cit
 use Rattle.mailbox_model.specs.Rosters.{listed, changes_members, group_after, group_after_member, roster_begun, roster_after, no_roster, roster_of, roster}
 use Rattle.mailbox_model.specs.Names.{name_by, name_or_empty}
 use Rattle.mailbox_model.specs.Pages.{keys}
+use Rattle.mailbox_model.proofs.Elements.{All-append}
 use Rattle.mailbox_model.proofs.ListLaws.{key_same}
 
 -- ---- names
@@ -131,16 +133,18 @@ from_other me t h of_parent = own t.own h
 abbrev AreOthers : Bytes → Known → Type 0
 AreOthers me known = AllByRecursion (IsWithOther me) (map (λ k. k.1) known)
 
-push_other : (me : Bytes) (known : Known) (k : Bytes × ChatKey) → AreOthers me known → IsWithOther me k.1 → AreOthers me (known ++ k ∷ [])
-push_other me [] k a h = (h, tt)
-push_other me (x ∷ known) k a h = (a.0, push_other me known k a.1 h)
+more_others : (me : Bytes) (known : Known) (k : Bytes × ChatKey) → AreOthers me known → IsWithOther me k.1
+    → AreOthers me (known ++ k ∷ [])
+more_others me known k a h =
+    subst (AllByRecursion (IsWithOther me)) (sym (map-append (λ k. k.1) known (k ∷ [])))
+    (All-append (IsWithOther me) (map (λ k. k.1) known) (k.1 ∷ []) a (h, tt))
 
 known_others : (me : Bytes) (known : Known) (ts : List Mail) → AreOthers me known
     → AreOthers me (known_after known (map (λ t. cites_by me (spot t.placed) t.placed.card) ts))
 known_others me known [] a = a
 known_others me known (t ∷ ts) a =
     let c = cites_by me (spot t.placed) t.placed.card in
-    known_others me (known ++ (c.spot.id, next_chat known c) ∷ []) ts (push_other me known (c.spot.id, next_chat known c) a (from_other me c (own_other me t.placed.card) (first_some (known_chat known) c.candidates)))
+    known_others me (known ++ (c.spot.id, next_chat known c) ∷ []) ts (more_others me known (c.spot.id, next_chat known c) a (from_other me c (own_other me t.placed.card) (first_some (known_chat known) c.candidates)))
 
 pub key_other : (m : Mailbox) (key : ChatKey) → list_any (key_eq key) (keys m) ≡ true → IsWithOther m.me key
 key_other m key h = by (find (key_eq key) (keys m)) refl (sym (list_any-found (key_eq key) (keys m)) ∙ h)

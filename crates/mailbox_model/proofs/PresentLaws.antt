@@ -21,7 +21,7 @@ use Rattle.mailbox_model.proofs.MailLaws.{order, line_of}
 -- ---- a sorted list has the same elements
 
 module _ {X : Type 0} (cmp : X → X → Ordering) where
-  permuted-insert_by : (x : X) (ys : List X) → IsPermutation (x ∷ ys) (insert_by cmp x ys)
+  pub permuted-insert_by : (x : X) (ys : List X) → IsPermutation (x ∷ ys) (insert_by cmp x ys)
   permuted-insert_by x [] = IsPermutation-refl (x ∷ [])
   permuted-insert_by x (y ∷ ys) =
       elim (is_lt (cmp x y)) as (λ b. IsPermutation (x ∷ y ∷ ys) (if b then x ∷ y ∷ ys else y ∷ insert_by cmp x ys)) [

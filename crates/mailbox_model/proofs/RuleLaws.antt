@@ -6,6 +6,7 @@ use Rattle.std.specs.Option.{option_or}
 use Rattle.std.specs.Result.{result_ok}
 use Rattle.std.proofs.lemmas.Bool.{or_parts, leb-false, ltb-false}
 use Rattle.std.proofs.lemmas.List.{length-append, length-map}
+use Rattle.std.proofs.lemmas.List.Filters.{length-filter_both, sum_by-filter_both}
 use Rattle.std.proofs.lemmas.List.Sums.{sum_by-cons, sum_by_push}
 use Rattle.kit.specs.Moments.{last_moment}
 use Rattle.card_type.specs.declared.card.Card.{Card}
@@ -16,6 +17,7 @@ use Rattle.mailbox_model.specs.declared.change.Change.TheVariants.{Arrive, Arriv
 use Rattle.mailbox_model.specs.Lists.{Bytes}
 use Rattle.mailbox_model.specs.Mailbox.{Mailbox, Entry, entry_of, item_of, empty_mailbox, new_entry, with_arrival, has_uid, mark_entry, after, after_all, weight_read, weights, lacks_room, full, max_entries, max_total_weight, end_of_uids, RiseBelow, IsEntry, IsMailbox, IsValidChange, AreAllowed}
 use Rattle.lists.proofs.Inserts.{All-filter}
+use Rattle.mailbox_model.proofs.Elements.{All-append}
 
 pub entry_again : (entry : Entry) → entry_of (item_of entry) (result_ok entry.read) ≡ Some entry
 entry_again entry = by entry.read
@@ -38,11 +40,6 @@ rise_push : (low next : ℕ) (entries : List Entry) (entry : Entry) → RiseBelo
 rise_push low next [] entry r e = (let h : low ≤ next = r in omega (arith, e), omega (arith, e))
 rise_push low next (x ∷ entries) entry r e = (r.0, rise_push (x.uid + 1) next entries entry r.1 e)
 
-each_push : (now : ℕ) (entries : List Entry) (entry : Entry) → AllByRecursion (IsEntry now) entries → IsEntry now entry
-    → AllByRecursion (IsEntry now) (entries ++ entry ∷ [])
-each_push now [] entry a h = (h, tt)
-each_push now (x ∷ entries) entry a h = (a.0, each_push now entries entry a.1 h)
-
 arrival_keeps : (m : Mailbox) (read : Result Card Fault) → IsMailbox m → lacks_room m (weight_read read) ≡ false
     → IfOk read (λ card. IsTrue (is_valid card)) → IsMailbox (with_arrival m read)
 arrival_keeps m read k room valid =
@@ -54,7 +51,7 @@ arrival_keeps m read k room valid =
       moment = k.moment;
       uids = rise_push 1 m.next_uid m.entries (new_entry m read) k.uids refl;
       next = omega (arith, leb-false end_of_uids m.next_uid first.1);
-      each = each_push m.now m.entries (new_entry m read) k.each (record { arrived = omega arith; seen_after = tt; seen_by = tt; valid = valid });
+      each = All-append (IsEntry m.now) m.entries (new_entry m read ∷ []) k.each (record { arrived = omega arith; seen_after = tt; seen_by = tt; valid = valid }, tt);
       count_fits = omega (arith, leb-false max_entries (length m.entries) first.0, length-append m.entries (new_entry m read ∷ []));
       weight_fits = omega (arith, ltb-false max_total_weight (weights m.entries + weight_read read) parts.1, sum_by_push (λ entry. weight_read entry.read) m.entries (new_entry m read));
     }
@@ -71,22 +68,6 @@ rise_filter p low more next (x ∷ entries) h r =
       | false ↦ rise_filter p (x.uid + 1) more next entries (omega arith) r.1
     ]
 
-length_filter : (p : Entry → Bool) (entries : List Entry) → length (filter p entries) ≤ length entries
-length_filter p [] = omega arith
-length_filter p (x ∷ entries) =
-    let h = length_filter p entries in
-    elim (p x) as (λ b. length (cond b (x ∷ filter p entries) (filter p entries)) ≤ length (x ∷ entries)) [ true ↦ omega (arith, h) | false ↦ omega (arith, h) ]
-
-weights_filter : (p : Entry → Bool) (entries : List Entry) → weights (filter p entries) ≤ weights entries
-weights_filter p [] = omega arith
-weights_filter p (x ∷ entries) =
-    let h = weights_filter p entries in
-    let whole = sum_by-cons (λ entry. weight_read entry.read) x entries in
-    elim (p x) as (λ b. weights (cond b (x ∷ filter p entries) (filter p entries)) ≤ weights (x ∷ entries)) [
-      | true ↦ omega (arith, h, whole, sum_by-cons (λ entry. weight_read entry.read) x (filter p entries))
-      | false ↦ omega (arith, h, whole)
-    ]
-
 expunge_keeps : (m : Mailbox) (uid : ℕ) → IsMailbox m → IsMailbox (after m (Expunge uid))
 expunge_keeps m uid k =
     let p : Entry → Bool = λ entry. not (has_uid uid entry) in
@@ -95,8 +76,8 @@ expunge_keeps m uid k =
       uids = rise_filter p 1 1 m.next_uid m.entries (omega arith) k.uids;
       next = k.next;
       each = All-filter (IsEntry m.now) p m.entries k.each;
-      count_fits = omega (arith, k.count_fits, length_filter p m.entries);
-      weight_fits = omega (arith, k.weight_fits, weights_filter p m.entries);
+      count_fits = omega (arith, k.count_fits, length-filter_both p (λ entry. not (p entry)) (λ entry. refl) m.entries);
+      weight_fits = omega (arith, k.weight_fits, sum_by-filter_both p (λ entry. not (p entry)) (λ entry. refl) (λ entry. weight_read entry.read) m.entries);
     }
 
 -- ---- a seen mark

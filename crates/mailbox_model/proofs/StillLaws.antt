@@ -6,6 +6,8 @@ use Rattle.std.specs.Option.{option_or}
 use Rattle.std.specs.declared.cmp.Ordering.{Ordering}
 use Rattle.std.specs.Ordering.{is_lt}
 use Rattle.std.proofs.lemmas.Bool.{eq-eqb, ne_eqb}
+use Rattle.std.proofs.lemmas.List.Sorted.{length_permutation, sum_by-IsPermutation}
+use Rattle.std.proofs.lemmas.List.Sums.{length-filter}
 use Rattle.std.proofs.lemmas.List.Elements.{All-from_recursion, All-contains}
 use Rattle.lists.specs.Sorted.{insert_by}
 use Rattle.card_type.specs.declared.card.Card.{Card}
@@ -16,29 +18,20 @@ use Rattle.mailbox_model.specs.declared.turn.Turn.TheVariants.{Nothing, Add, Rem
 use Rattle.mailbox_model.specs.Mailbox.{Mailbox, Entry, after, IsEntry, IsMailbox}
 use Rattle.mailbox_model.specs.Present.{Mail, effective_date, mail_by, mail_of, mail_cmp, present}
 use Rattle.mailbox_model.specs.Turns.{is_mail, mark_mail, with_mail, turn, Turns, MovesClock}
+use Rattle.mailbox_model.proofs.PresentLaws.{permuted-insert_by}
 use Rattle.mailbox_model.proofs.TurnLaws.{turn_law}
 use Rattle.mailbox_model.proofs.UidLaws.{present_each}
 
--- ---- an insert adds one
+-- ---- a mail inserted is one more
 
-module _ {X : Type 0} (cmp : X → X → Ordering) (p : X → Bool) where
-  abbrev many : List X → ℕ
-  many xs = length (filter p xs)
+length-with : (t : Mail) (ts : List Mail) → length (with_mail t ts) ≡ length (t ∷ ts)
+length-with t ts = length_permutation (t ∷ ts) (with_mail t ts) (permuted-insert_by mail_cmp t ts)
 
-  many-cons : (x : X) (xs : List X) → many (x ∷ xs) ≡ (if p x then 1 else 0) + many xs
-  many-cons x xs = elim (p x) as (λ b. length (cond b (x ∷ filter p xs) (filter p xs)) ≡ (if b then 1 else 0) + many xs) [ true ↦ omega arith | false ↦ omega arith ]
-
-  many-insert_by : (x : X) (ys : List X) → many (insert_by cmp x ys) ≡ (if p x then 1 else 0) + many ys
-  many-insert_by x [] = many-cons x []
-  many-insert_by x (y ∷ ys) =
-      let both : many (y ∷ insert_by cmp x ys) ≡ (if p x then 1 else 0) + many (y ∷ ys) = omega (arith, many-cons y (insert_by cmp x ys), many-cons y ys, many-insert_by x ys) in
-      elim (is_lt (cmp x y)) as (λ b. many (if b then x ∷ y ∷ ys else y ∷ insert_by cmp x ys) ≡ (if p x then 1 else 0) + many (y ∷ ys)) [ true ↦ many-cons x (y ∷ ys) | false ↦ both ]
-
-length-with : (t : Mail) (ts : List Mail) → length (with_mail t ts) ≡ length ts + 1
-length-with t [] = omega arith
-length-with t (u ∷ ts) =
-    let rest = length-with t ts in
-    elim (is_lt (mail_cmp t u)) as (λ b. length (if b then t ∷ u ∷ ts else u ∷ with_mail t ts) ≡ length (u ∷ ts) + 1) [ true ↦ omega arith | false ↦ omega (arith, rest) ]
+many-with : (p : Mail → Bool) (t : Mail) (ts : List Mail) → length (filter p (with_mail t ts)) ≡ length (filter p (t ∷ ts))
+many-with p t ts =
+    length-filter p (with_mail t ts)
+    ∙ sum_by-IsPermutation (λ u. cond (p u) 1 0) (t ∷ ts) (with_mail t ts) (permuted-insert_by mail_cmp t ts)
+    ∙ sym (length-filter p (t ∷ ts))
 
 -- ---- every other turn moves something
 
@@ -66,8 +59,8 @@ still before later now old new (Replace from to) (t, u, is, has, r) clock same a
     let p = is_mail t.placed.uid in
     let here : p t ≡ true = eq-eqb t.placed.uid t.placed.uid refl in
     let gone : p u ≡ false = ne_eqb u.placed.uid t.placed.uid (λ k. r.apart (sym k)) in
-    let first : length (filter p before) ≡ 1 + length (filter p r.others) = ap (λ (ts : List Mail). length (filter p ts)) r.first ∙ many-insert_by mail_cmp p t r.others ∙ ap (λ b. (if b then 1 else 0) + length (filter p r.others)) here in
-    let second : length (filter p later) ≡ 0 + length (filter p r.others) = ap (λ (ts : List Mail). length (filter p ts)) r.second ∙ many-insert_by mail_cmp p u r.others ∙ ap (λ b. (if b then 1 else 0) + length (filter p r.others)) gone in
+    let first : length (filter p before) ≡ 1 + length (filter p r.others) = ap (λ (ts : List Mail). length (filter p ts)) r.first ∙ many-with p t r.others ∙ ap (λ b. length (cond b (t ∷ filter p r.others) (filter p r.others))) here ∙ omega arith in
+    let second : length (filter p later) ≡ length (filter p r.others) = ap (λ (ts : List Mail). length (filter p ts)) r.second ∙ many-with p u r.others ∙ ap (λ b. length (cond b (u ∷ filter p r.others) (filter p r.others))) gone in
     absurd (omega (arith, first, second, ap (λ (ts : List Mail). length (filter p ts)) same))
 still before later now old new (Marked uid) (t, there, is, unseen, e) clock same alike =
     let all = fixed (mark_mail uid now) before (sym e ∙ same) in

@@ -2,9 +2,10 @@
 use Rattle.std.proofs.Common.{◌≡◌, refl, sym, ap, ◌∙◌, subst, ℕ, ◌+◌, ◌<◌, ◌≤◌, Bool, true, false, not, cond, Option, Some, None, Result, Ok, Err, List, [], ◌∷◌, ◌++◌, map, arith, inl, inr}
 use Rattle.std.specs.Prelude.{if◌then◌else◌, filter_map, filter, find, IfSome}
 use Rattle.std.specs.List.{AllByRecursion, IsDistinct, cons_option}
-use Rattle.std.specs.Option.{option_and_then}
+use Rattle.std.specs.Option.{option_and_then, option_or}
 use Rattle.std.specs.Result.{result_ok}
 use Rattle.std.proofs.lemmas.Bool.{cases_eq, eq-eqb, eqb-true, ne_eqb}
+use Rattle.std.proofs.lemmas.List.Folds.{find-append}
 use Rattle.std.proofs.lemmas.List.Elements.{All-from_recursion, recursion_from_All}
 use Rattle.kit.specs.Options.{◌>>=◌}
 use Rattle.lists.specs.Distinct.{firsts}
@@ -18,6 +19,7 @@ use Rattle.mailbox_model.specs.declared.change.Change.{Change}
 use Rattle.mailbox_model.specs.declared.change.Change.TheVariants.{Arrive, ArriveFault, Expunge, Seen, At}
 use Rattle.mailbox_model.specs.Mailbox.{Mailbox, Entry, new_entry, has_uid, mark_entry, marked_at, entry_at, card_at, after, after_all, RiseBelow}
 use Rattle.mailbox_model.specs.Present.{Mail, mail_by, mail_of, mail_at, mail_cmp, mails, same_id, present, same_uid}
+use Rattle.mailbox_model.proofs.ChatLaws.{or_none}
 use Rattle.mailbox_model.proofs.MailLaws.{line_of}
 
 -- ---- each entry is found by its uid
@@ -106,8 +108,7 @@ present_uids m u = once_firsts (mails m) (line_of m u).once
 -- ---- a uid never names a second card
 
 find-push : {X : Type 0} (p : X → Bool) (xs : List X) (y : X) → p y ≡ false → find p (xs ++ y ∷ []) ≡ find p xs
-find-push p [] y h = rw h refl
-find-push p (x ∷ xs) y h = ap (cond (p x) (Some x)) (find-push p xs y h)
+find-push p xs y h = find-append p xs (y ∷ []) ∙ ap (option_or (find p xs)) (rw h refl) ∙ or_none (find p xs)
 
 abbrev card_in : Entry → Option Card
 card_in entry = result_ok entry.read

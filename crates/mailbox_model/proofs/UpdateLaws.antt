@@ -9,6 +9,7 @@ use Rattle.card_type.specs.declared.effect.Effect.TheVariants as effects
 use Rattle.mailbox_model.specs.Mailbox.{Mailbox, RiseBelow}
 use Rattle.mailbox_model.specs.Present.{Placed, Mail, present, present_cards, same_uid}
 use Rattle.mailbox_model.specs.Rows.{Brought, acting, acting_by, brought_by, update_row, updates_by, same_part}
+use Rattle.mailbox_model.proofs.Elements.{All-append}
 use Rattle.mailbox_model.proofs.ActLaws.{IsDistinct-acting}
 use Rattle.mailbox_model.proofs.UidLaws.{present_uids}
 
@@ -51,16 +52,12 @@ one_mail e n (u ∷ us) =
     (later_parts e (record { by = e; part = n; update = u }) (n + 1) us (omega arith), one_mail e (n + 1) us)
 
 -- of several
-All-both : {X : Type 0} (P : X → Type 0) (xs ys : List X) → AllByRecursion P xs → AllByRecursion P ys → AllByRecursion P (xs ++ ys)
-All-both P [] ys a b = b
-All-both P (x ∷ xs) ys a b = (a.0, All-both P xs ys a.1 b)
-
 IsDistinct-both : {X : Type 0} (same : X → X → Bool) (xs ys : List X) → IsDistinct same xs → IsDistinct same ys
     → AllByRecursion (λ x. AllByRecursion (λ y. same x y ≡ false) ys) xs → IsDistinct same (xs ++ ys)
 unfolding IsDistinct
 IsDistinct-both same [] ys d e a = e
 IsDistinct-both same (x ∷ xs) ys d e a =
-    (All-both (λ y. same x y ≡ false) xs ys d.0 a.0, IsDistinct-both same xs ys d.1 e a.1)
+    (All-append (λ y. same x y ≡ false) xs ys d.0 a.0, IsDistinct-both same xs ys d.1 e a.1)
 
 other_mail : (x : Brought) (f : Placed) (n : ℕ) (us : List Update) → (x.by.uid == f.uid) ≡ false
     → AllByRecursion (λ b. same_place x b ≡ false) (bring f n us)
@@ -71,7 +68,7 @@ other_mails : (x : Brought) (fs : List Placed) → AllByRecursion (λ f. placed_
     → AllByRecursion (λ b. same_place x b ≡ false) (flat_map brought_by fs)
 other_mails x [] a = tt
 other_mails x (f ∷ fs) a =
-    All-both (λ b. same_place x b ≡ false) (brought_by f) (flat_map brought_by fs) (other_mail x f 0 f.card.updates a.0) (other_mails x fs a.1)
+    All-append (λ b. same_place x b ≡ false) (brought_by f) (flat_map brought_by fs) (other_mail x f 0 f.card.updates a.0) (other_mails x fs a.1)
 
 each_other : (e : Placed) (n : ℕ) (us : List Update) (fs : List Placed) → AllByRecursion (λ f. placed_uid e f ≡ false) fs
     → AllByRecursion (λ x. AllByRecursion (λ b. same_place x b ≡ false) (flat_map brought_by fs)) (bring e n us)

@@ -131,7 +131,7 @@ chats m = chats_of (cites m)
 
 -- the chat of the card with this id
 abbrev pub chat : Mailbox → Bytes → Option ChatKey
-chat m id = known_chat (chats m) id
+chat m id = chat_among (cites m) id
 
 abbrev pub is_chat : ChatKey → Option ChatKey → Bool
 is_chat key other = option_map_or (key_eq key) other false

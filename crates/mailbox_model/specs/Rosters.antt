@@ -63,10 +63,17 @@ direct_after r c = record r { timer = timer_after r.timer c }
 
 -- ---- any chat
 
+-- who is in a chat before it has a card
+abbrev pub first_members : Bytes → ChatKey → List Bytes
+first_members me SelfChat = me ∷ []
+first_members me (Single a) = me ∷ a ∷ []
+first_members me (Group g) = []
+first_members me (Thread i) = []
+
 -- of the first card
 abbrev pub roster_begun : Bytes → ChatKey → Card → Roster
-roster_begun me SelfChat c = direct_begun (me ∷ []) c
-roster_begun me (Single a) c = direct_begun (me ∷ a ∷ []) c
+roster_begun me SelfChat c = direct_begun (first_members me SelfChat) c
+roster_begun me (Single a) c = direct_begun (first_members me (Single a)) c
 roster_begun me (Group g) c = group_begun c
 roster_begun me (Thread i) c = thread_begun c
 
@@ -76,12 +83,6 @@ roster_after SelfChat r c = direct_after r c
 roster_after (Single a) r c = direct_after r c
 roster_after (Group g) r c = group_after r c
 roster_after (Thread i) r c = thread_after r c
-
-abbrev pub first_members : Bytes → ChatKey → List Bytes
-first_members me SelfChat = me ∷ []
-first_members me (Single a) = me ∷ a ∷ []
-first_members me (Group g) = []
-first_members me (Thread i) = []
 
 -- of no card
 abbrev pub no_roster : Bytes → ChatKey → Roster
