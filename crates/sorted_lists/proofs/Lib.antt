@@ -1,0 +1,3 @@
+-- Lemmas.
+pub mod Searches
+pub mod ById

@@ -1,0 +1,79 @@
+//! One list of values in order.
+ghost use Rattle.std.specs.Prelude.{◌≡◌, ◌<◌, [], false, not, filter, OnOk};
+ghost use Rattle.std.specs.List.{list_any};
+ghost use Rattle.std.specs.List.Sorted.{IsStrictlySortedBy};
+ghost use Rattle.std.specs.Ordering.{eq_by_cmp};
+ghost use Rattle.lists.specs.Sorted.{insert_by};
+
+use kit::Memory;
+use std::alloc::Global;
+use std::marker::Model;
+
+/// Values in their order, no two of which tie. A contract sees the list of them, and beside it the number of values that
+/// can be inserted without memory.
+#[derive(Drop)]
+pub struct SortedList<T: Ord> {
+    values: Vec<T>,
+}
+
+impl<T: Ord> Model for SortedList<T> {
+    ghost use Rattle.std.specs.Prelude.{◌-◌, vec_len, vec_capacity};
+    ghost use Rattle.std.specs.List.Sorted.{IsStrictlySortedBy};
+    ghost use Rattle.sorted_lists.specs.Ordered.{Ordered, ordered_code};
+
+    ghost Value = { Ordered T };
+
+    ghost coded = { ordered_code T.code };
+
+    ghost view = { λ list. record { values = list.values.items; spare = vec_capacity list.values - vec_len list.values } };
+
+    ghost invariant = { λ list. IsStrictlySortedBy T.cmp list.values.items };
+}
+
+impl<T: Ord + Drop> SortedList<T> {
+    /// No values. Takes no memory.
+    pub fn new(alloc: Global) -> Self
+        ensures { result.values ≡ [] }
+    {
+        SortedList {
+            values: Vec::new(alloc),
+        }
+    }
+
+    /// The values, in their order. Takes no memory.
+    pub fn as_slice(&self) -> &[T]
+        ensures values { result.now ≡ self.now.values }
+        ensures order { IsStrictlySortedBy T.cmp self.now.values }
+    {
+        self.values.as_slice()
+    }
+
+    /// Makes room for one more value, and changes nothing else, also where memory runs out. Takes memory; `Err` only when
+    /// it runs out.
+    pub fn reserve(&mut self) -> Result<(), Memory>
+        ensures room { OnOk result (0 < self.new.spare) }
+        ensures same { self.new.values ≡ self.old.values }
+    {
+        Ok(self.values.reserve(1)?)
+    }
+
+    /// Inserts a value that ties with none, in its place. Takes no memory: room for it was made before.
+    pub fn insert(&mut self, value: T)
+        requires room { 0 < self.old.spare }
+        requires absent { list_any (eq_by_cmp T.cmp value) self.old.values ≡ false }
+        ensures { self.new.values ≡ insert_by T.cmp value self.old.values }
+    {
+        let (Ok(index) | Err(index)) = self.values.binary_search(&value);
+        let inserted: Result<_, _> = self.values.insert(index, value);
+        inserted.unwrap();
+    }
+
+    /// Takes the value out that ties with this one, where there is one. Takes no memory.
+    pub fn remove(&mut self, value: &T)
+        ensures { self.new.values ≡ filter (λ other. not (eq_by_cmp T.cmp value.now other)) self.old.values }
+    {
+        if let Ok(index) = self.values.binary_search(value) {
+            let _removed = self.values.remove(index);
+        }
+    }
+}
