@@ -1,21 +1,23 @@
 -- A `HashMap` by numbers, as a finite map.
-use Rattle.std.proofs.Common.{◌≡◌, ℕ, List, [], ◌∷◌, Some, None, cond, nat_eq, arith, refl, sym, ◌∙◌}
-use Rattle.std.specs.Ordering.{nat_cmp, eq_by_cmp}
+use Rattle.std.proofs.Common.{◌≡◌, refl, sym, ap, ◌∙◌, ℕ, List, Some, None, cond, nat_eq, arith}
+use Rattle.std.specs.Ordering.{nat_cmp}
 use Rattle.std.specs.Map.{lookup}
-use Rattle.std.specs.FinMap.{find, from_entries, insert, remove, get, get-from_entries, get-insert, get-remove, same_map, nat_cmp-IsAntisymmetric}
+use Rattle.std.specs.BTreeMap.{is_at}
+use Rattle.std.specs.FinMap.{from_entries, insert, remove, get, same_map, nat_cmp-IsAntisymmetric}
 use Rattle.std.proofs.lemmas.Cmp.{nat_cmp_total}
 use Rattle.std.proofs.lemmas.Bool.Decides.{nat_tests}
+use Rattle.lists.proofs.Maps.{get_is, insert_is, remove_is}
 
-agrees : (x y : ℕ) → eq_by_cmp nat_cmp x y ≡ nat_eq x y
+-- the order of numbers tells alike those that are equal
+agrees : (x y : ℕ) → is_at (nat_cmp x) y ≡ nat_eq x y
 agrees x y = grind (arith, nat_tests)
 
-find-lookup : {X : Type 0} (es : List (ℕ × X)) (q : ℕ) → find nat_cmp q es ≡ lookup (nat_eq q) es
-find-lookup [] q = refl
-find-lookup (e ∷ es) q = λ i. cond (agrees q e.0 i) (Some e.1) (find-lookup es q i)
-
 module _ {X : Type 0} (es : List (ℕ × X)) where
+  looked : (q : ℕ) → lookup (is_at (nat_cmp q)) es ≡ lookup (nat_eq q) es
+  looked q = λ i. lookup (λ x. agrees q x i) es
+
   pub get_uid : (q : ℕ) → get (from_entries {R = nat_cmp} es) q ≡ lookup (nat_eq q) es
-  get_uid q = get-from_entries nat_cmp_total es q ∙ find-lookup es q
+  get_uid q = get_is nat_cmp_total es q ∙ looked q
 
 module _ {X : Type 0} (es fs : List (ℕ × X)) where
   pub same_uids : ((q : ℕ) → lookup (nat_eq q) fs ≡ lookup (nat_eq q) es) → from_entries {R = nat_cmp} fs ≡ from_entries es
@@ -24,19 +26,11 @@ module _ {X : Type 0} (es fs : List (ℕ × X)) where
   pub inserted_uid : (k : ℕ) (v : X) → ((q : ℕ) → lookup (nat_eq q) fs ≡ cond (nat_eq k q) (Some v) (lookup (nat_eq q) es))
       → from_entries {R = nat_cmp} fs ≡ insert (from_entries es) k v
   inserted_uid k v only =
-      same_map nat_cmp_total nat_cmp-IsAntisymmetric _ _ (λ q.
-      get_uid fs q ∙ only q ∙ (λ i. cond (turn k q i) (Some v) (sym (get_uid es q) i))
-      ∙ sym (get-insert nat_cmp_total (from_entries es) k v q))
-    where
-      turn : (k q : ℕ) → nat_eq k q ≡ eq_by_cmp nat_cmp q k
-      turn k q = grind (arith, nat_tests)
+      insert_is nat_cmp_total nat_cmp-IsAntisymmetric es fs k v (λ q.
+      looked fs q ∙ only q ∙ (λ i. cond (sym (agrees k q) i) (Some v) (sym (looked es q) i)))
 
   pub removed_uid : (k : ℕ) → ((q : ℕ) → lookup (nat_eq q) fs ≡ cond (nat_eq k q) None (lookup (nat_eq q) es))
       → from_entries {R = nat_cmp} fs ≡ remove (from_entries es) k
   removed_uid k only =
-      same_map nat_cmp_total nat_cmp-IsAntisymmetric _ _ (λ q.
-      get_uid fs q ∙ only q ∙ (λ i. cond (turn k q i) None (sym (get_uid es q) i))
-      ∙ sym (get-remove nat_cmp_total (from_entries es) k q))
-    where
-      turn : (k q : ℕ) → nat_eq k q ≡ eq_by_cmp nat_cmp q k
-      turn k q = grind (arith, nat_tests)
+      remove_is nat_cmp_total nat_cmp-IsAntisymmetric es fs k (λ q.
+      looked fs q ∙ only q ∙ (λ i. cond (sym (agrees k q) i) None (sym (looked es q) i)))
