@@ -1,4 +1,6 @@
 -- What public clauses cite.
 pub mod Stores
+pub mod Kept
 -- What private functions cite.
 pub mod Spots
+pub mod Inside

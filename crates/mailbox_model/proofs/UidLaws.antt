@@ -35,7 +35,7 @@ above low next (e ∷ es) r =
     let first : low ≤ e.uid = r.0 in
     (first, above_more low (e.uid + 1) es (omega arith) (above (e.uid + 1) next es r.1))
 
-below : (low next : ℕ) (entries : List Entry) → RiseBelow low entries next
+pub below : (low next : ℕ) (entries : List Entry) → RiseBelow low entries next
     → (low ≤ next) × AllByRecursion (λ e. e.uid < next) entries
 below low next [] r = (r, tt)
 below low next (e ∷ es) r =
@@ -43,7 +43,7 @@ below low next (e ∷ es) r =
     let rest = below (e.uid + 1) next es r.1 in
     (omega (arith, rest.0), (omega (arith, rest.0), rest.1))
 
-each_found : (low next : ℕ) (entries : List Entry) → RiseBelow low entries next
+pub each_found : (low next : ℕ) (entries : List Entry) → RiseBelow low entries next
     → AllByRecursion (λ e. find (has_uid e.uid) entries ≡ Some e) entries
 each_found low next [] r = tt
 each_found low next (e ∷ es) r =
@@ -113,7 +113,7 @@ find-push p xs y h = find-append p xs (y ∷ []) ∙ ap (option_or (find p xs)) 
 abbrev card_in : Entry → Option Card
 card_in entry = result_ok entry.read
 
-card-marked : (uid marked now : ℕ) (entries : List Entry)
+pub card-marked : (uid marked now : ℕ) (entries : List Entry)
     → option_and_then card_in (find (has_uid uid) (map (mark_entry marked now) entries)) ≡ option_and_then card_in (find (has_uid uid) entries)
 card-marked uid marked now [] = refl
 card-marked uid marked now (e ∷ es) = by (has_uid marked e) (card-marked uid marked now es)
