@@ -18,7 +18,7 @@ use Rattle.sorted_lists.proofs.Searches as searches
 use Rattle.mailbox_model.specs.declared.item.Item.{Item}
 use Rattle.mailbox_model.specs.declared.item.Held.TheVariants as is_held
 use Rattle.mailbox_model.specs.Mailbox.{Mailbox, Entry, item_of, has_uid, entry_at, item_at, marked_at, RiseBelow}
-use Rattle.box_state.specs.Kept.{IsEntryAt}
+use Rattle.box_state.specs.Entries.{IsEntryAt}
 use Rattle.box_state.proofs.Entries.{none_above, mark_item}
 
 -- an entry of the list has a uid from there on

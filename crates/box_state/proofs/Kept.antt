@@ -24,7 +24,7 @@ use Rattle.box_state.specs.declared.ready.Ready.TheVariants.{Unready, ForCard}
 use Rattle.box_state.specs.declared.mailbox.Mailbox.TheInside.{Inside}
 use Rattle.box_state.specs.Stores.{Store}
 use Rattle.box_state.specs.Spots.{SpotTable, spot_at, copies_at, copies_with, copies_but, ties}
-use Rattle.box_state.specs.Kept.{entry_with, with_entry}
+use Rattle.box_state.specs.Entries.{entry_with, with_entry}
 use Rattle.box_state.specs.Inside.{mailbox_in, HasRoomFor, IsKept}
 use Rattle.box_state.proofs.Entries.{entries_put, put_below, rise_put, not_there, none_put, entries_left, weights_left, all_left, none_marked, entries_marked, weights_marked, mark_item}
 use Rattle.box_state.proofs.Places.{spot_absent, copies_apart, spots_put, spots_same, spots_left, spots_marked}

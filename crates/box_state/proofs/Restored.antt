@@ -11,7 +11,8 @@ use Rattle.mailbox_model.specs.declared.item.Held.TheVariants as is_held
 use Rattle.mailbox_model.specs.declared.item.Item.{Item}
 use Rattle.mailbox_model.specs.Lists.{Bytes}
 use Rattle.mailbox_model.specs.Mailbox.{Mailbox, Entry, entry_of, weight_read, IsEntry, IsMailbox, RiseBelow}
-use Rattle.box_state.specs.Kept.{entry_with, with_entry, with_item, is_beside, AreBeside, entries_of, mailbox_of}
+use Rattle.box_state.specs.Kept.{is_beside, AreBeside, entries_of, mailbox_of}
+use Rattle.box_state.specs.Entries.{entry_with, with_entry, with_item}
 
 -- ---- one item
 

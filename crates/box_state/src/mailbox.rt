@@ -4,7 +4,7 @@ ghost use Rattle.std.specs.Option.{option_copied};
 ghost use Rattle.mailbox_model.specs.Mailbox.{empty_mailbox, item_of, item_at, card_at, IsMailbox};
 ghost use Rattle.mailbox_model.specs.Present.{spot_of, spot, placed_by, effective_date, present};
 ghost use Rattle.mailbox_model.specs.Turns.{is_mail};
-ghost use Rattle.box_state.specs.Kept.{entry_with, IsEntryAt};
+ghost use Rattle.box_state.specs.Entries.{entry_with, IsEntryAt};
 ghost use Rattle.box_state.specs.declared.ready.Ready.TheVariants.{Unready};
 
 mod make;

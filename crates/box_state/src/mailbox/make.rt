@@ -4,7 +4,8 @@ ghost use Rattle.kit.specs.Moments.{last_moment};
 ghost use Rattle.mailbox_model.specs.Mailbox.{after, full, end_of_uids, IsMailbox, IsValidChange};
 ghost use Rattle.mailbox_model.specs.declared.change.Change.TheVariants.{Arrive, ArriveFault, Expunge, Seen, At};
 ghost use Rattle.mailbox_model.specs.declared.item.Held.TheVariants as is_held;
-ghost use Rattle.box_state.specs.Kept.{IsReady, entry_with, with_entry};
+ghost use Rattle.box_state.specs.Kept.{IsReady};
+ghost use Rattle.box_state.specs.Entries.{entry_with, with_entry};
 ghost use Rattle.box_state.specs.declared.ready.Ready.TheVariants.{Unready, ForFault, ForCard};
 
 use crate::mailbox::{Mailbox, spot_in};

@@ -1,7 +1,8 @@
 //! A mailbox made again of its values.
 ghost use Rattle.std.specs.Prelude.{◌≡◌, true, [], IfOk, OnOk};
 ghost use Rattle.mailbox_model.specs.Mailbox.{IsMailbox};
-ghost use Rattle.box_state.specs.Kept.{AreBeside, is_beside, mailbox_of, with_item};
+ghost use Rattle.box_state.specs.Kept.{AreBeside, is_beside, mailbox_of};
+ghost use Rattle.box_state.specs.Entries.{with_item};
 ghost use Rattle.box_state.specs.declared.ready.Ready.TheVariants.{Unready};
 
 use crate::mailbox::Mailbox;

@@ -2,7 +2,7 @@ use Rattle.std.proofs.Common.{◌≡◌, sym, ap, ◌∙◌, ◌+◌, ◌-◌, a
 use Rattle.mailbox_model.specs.Mailbox.{after, weight_read}
 use Rattle.mailbox_model.specs.declared.change.Change.TheVariants.{Expunge}
 use Rattle.box_state.specs.declared.ready.Ready.TheVariants.{Unready}
-use Rattle.box_state.specs.Kept.{IsEntryAt}
+use Rattle.box_state.specs.Entries.{IsEntryAt}
 use Rattle.box_state.specs.Inside.{mailbox_in}
 use Rattle.box_state.proofs.Indexes.{entry_is, items_left}
 use Rattle.box_state.proofs.Changed.{Keeps, kept_as, mailbox_as}

@@ -1,6 +1,6 @@
 use Rattle.std.proofs.Common.{sym, ap, ◌∙◌, subst}
 use Rattle.mailbox_model.specs.Mailbox.{item_at}
-use Rattle.box_state.specs.Kept.{IsEntryAt}
+use Rattle.box_state.specs.Entries.{IsEntryAt}
 use Rattle.box_state.specs.Inside.{mailbox_in}
 use Rattle.box_state.proofs.Indexes.{item_found}
 use Rattle.box_state.proofs.mailbox.Mailbox.item.Goals as goal

@@ -4,7 +4,7 @@ use Rattle.std.specs.Option.{option_or}
 use Rattle.mailbox_model.specs.Mailbox.{after, marked_at}
 use Rattle.mailbox_model.specs.declared.change.Change.TheVariants.{Seen}
 use Rattle.box_state.specs.declared.ready.Ready.TheVariants.{Unready}
-use Rattle.box_state.specs.Kept.{IsEntryAt}
+use Rattle.box_state.specs.Entries.{IsEntryAt}
 use Rattle.box_state.specs.Inside.{mailbox_in}
 use Rattle.box_state.proofs.Indexes.{item_is, items_marked}
 use Rattle.box_state.proofs.Changed.{Keeps, kept_as, mailbox_as}

@@ -1,6 +1,7 @@
 use Rattle.std.proofs.Common.{◌≡◌, sym, ap, ◌∙◌, subst, true, Ok}
 use Rattle.mailbox_model.specs.Mailbox.{IsMailbox}
-use Rattle.box_state.specs.Kept.{entry_with, with_entry, with_item, is_beside}
+use Rattle.box_state.specs.Kept.{is_beside}
+use Rattle.box_state.specs.Entries.{entry_with, with_entry, with_item}
 use Rattle.box_state.proofs.Restored.{holds_card, with_card}
 use Rattle.box_state.proofs.mailbox.Mailbox.put_back.Goals as goal
 

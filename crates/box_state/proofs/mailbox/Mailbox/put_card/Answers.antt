@@ -2,7 +2,7 @@ use Rattle.std.proofs.Common.{◌≡◌, sym, ap, ◌∙◌, subst, ℕ, ◌+◌
 use Rattle.mailbox_model.specs.Mailbox.{IsMailbox}
 use Rattle.mailbox_model.specs.Present.{effective_date}
 use Rattle.box_state.specs.Spots.{spot_at, copies_at, copies_with}
-use Rattle.box_state.specs.Kept.{entry_with, with_entry}
+use Rattle.box_state.specs.Entries.{entry_with, with_entry}
 use Rattle.box_state.specs.Inside.{mailbox_in}
 use Rattle.box_state.proofs.Changed.{Keeps, kept_as, mailbox_as}
 use Rattle.box_state.proofs.Kept.{card_put, light, no_card, no_spot, no_copy, is_spot}

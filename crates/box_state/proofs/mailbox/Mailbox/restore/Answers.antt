@@ -2,7 +2,8 @@ use Rattle.std.proofs.Common.{sym, ap, ◌∙◌, subst, rules, map-id, []}
 use Rattle.std.proofs.lemmas.Iterator.Adapters.{YieldsList-from_vec}
 use Rattle.std.proofs.lemmas.Iterator.Consumers.{YieldsList-end, YieldsList-so_far, YieldsList-turn}
 use Rattle.mailbox_model.specs.Mailbox.{IsMailbox}
-use Rattle.box_state.specs.Kept.{entries_of, mailbox_of, with_item}
+use Rattle.box_state.specs.Kept.{entries_of, mailbox_of}
+use Rattle.box_state.specs.Entries.{with_item}
 use Rattle.box_state.proofs.Restored.{front_keeps, entries_more, Goes, next_goes}
 use Rattle.box_state.proofs.mailbox.Mailbox.restore.Goals as goal
 

@@ -1,0 +1,243 @@
+//! The mailbox as it is kept: its changes, what they would do, its limits, and a mailbox made again.
+ghost use Rattle.std.specs.Prelude.{◌≡◌, false, OnOk};
+ghost use Rattle.mailbox_model.specs.Mailbox.{full, IsValidChange};
+ghost use Rattle.box_state.specs.Kept.{ready_for};
+
+use box_state::{Change, Fault, Held, Item, Mailbox, PlanFault, Turn};
+use card_type::{Card, is_valid, weight};
+use kit::{Addr, Id, LAST_MOMENT, Text};
+use lists::Items;
+use std::alloc::Global;
+use std::test::Fail;
+
+const ME: &str = "me@x.org";
+
+const BOB: &str = "bob@x.org";
+
+/// What happens to a mailbox.
+#[derive(Clone, Copy)]
+enum Step {
+    /// A card with this id and this date arrives.
+    Mail(&'static str, u64),
+    Fault,
+    Expunge(u32),
+    Seen(u32),
+    At(u64),
+}
+
+/// Steps, and what each would do to the present cards.
+const STEPS: [(Step, &str); 22] = [
+    (Step::At(100), "moved 100"),
+    (Step::Mail("a", 50), "add 50 1"),
+    // Of copies of one id the first in mail order is present.
+    (Step::Mail("a", 60), "nothing"),
+    (Step::Mail("a", 40), "replace 1 by 3"),
+    (Step::Mail("a", 40), "nothing"),
+    (Step::Fault, "nothing"),
+    // No date is to come.
+    (Step::Mail("b", 200), "add 100 6"),
+    (Step::Mail("b", 100), "nothing"),
+    // The clock never goes back.
+    (Step::At(90), "nothing"),
+    (Step::At(110), "moved 110"),
+    // A mark counts once, and is of the present cards only where its card is present.
+    (Step::Seen(3), "marked 3"),
+    (Step::Seen(3), "nothing"),
+    (Step::Seen(2), "nothing"),
+    (Step::Seen(5), "nothing"),
+    (Step::Seen(9), "nothing"),
+    // What leaves gives way to the next copy.
+    (Step::Expunge(4), "nothing"),
+    (Step::Expunge(3), "replace 3 by 1"),
+    (Step::Expunge(3), "nothing"),
+    (Step::Expunge(1), "replace 1 by 2"),
+    (Step::Seen(2), "nothing"),
+    (Step::Expunge(2), "remove 2"),
+    (Step::Expunge(5), "nothing"),
+];
+
+/// What is left of them: uid, arrival and seen moment.
+const LEFT: [(u32, u64, Option<u64>); 2] = [(6, 100, None), (7, 100, None)];
+
+fn id(alloc: Global, bytes: &str) -> Result<Id, Fail> {
+    Ok(Id::read(alloc, bytes.as_bytes())?.ok_or("no id")?)
+}
+
+fn addr(alloc: Global, bytes: &str) -> Result<Addr, Fail> {
+    Ok(Addr::read(alloc, bytes.as_bytes())?.ok_or("no address")?)
+}
+
+fn dated(alloc: Global, bytes: &str, date: u64) -> Result<Card, Fail> {
+    let id = id(alloc, bytes)?;
+    let from = addr(alloc, BOB)?;
+    let mut card = Card::new(alloc, id, from);
+    card.date = Some(date);
+    Ok(card)
+}
+
+/// What a turn says: of a card that comes in its date and its uid, and else the uids.
+fn told(alloc: Global, turn: &Turn) -> Result<String, Fail> {
+    Ok(match turn {
+        Turn::Nothing => String::from_str(alloc, "nothing")?,
+        Turn::Add(spot) => format!(in alloc; "add {} {}", spot.date, spot.uid)?,
+        Turn::Remove(spot) => format!(in alloc; "remove {}", spot.uid)?,
+        Turn::Replace(from, to) => format!(in alloc; "replace {} by {}", from.uid, to.uid)?,
+        Turn::Marked(uid) => format!(in alloc; "marked {uid}")?,
+        Turn::Moved(moment) => format!(in alloc; "moved {moment}")?,
+    })
+}
+
+/// What a change would do, once the mailbox is ready for it.
+fn prepared(mailbox: &mut Mailbox, change: &Change) -> Result<Turn, Fail>
+    ensures room { OnOk result (full mailbox.new.mailbox change.now ≡ false) }
+    ensures ready { OnOk result (mailbox.new.ready ≡ ready_for change.now) }
+{
+    mailbox.reserve(change)?;
+    match mailbox.plan(change) {
+        Ok(turn) => Ok(turn),
+        Err(_) => Err(Fail::from("no plan")),
+    }
+}
+
+/// Makes a change, and says what it was planned to do.
+fn made(mailbox: &mut Mailbox, change: Change) -> Result<Turn, Fail>
+    requires { IsValidChange change }
+{
+    let turn = prepared(mailbox, &change)?;
+    mailbox.make(change);
+    Ok(turn)
+}
+
+fn arrives(mailbox: &mut Mailbox, card: Card) -> Result<Turn, Fail> {
+    if !is_valid(&card) {
+        return Err(Fail::from("no valid card"));
+    }
+    made(mailbox, Change::Arrive(card))
+}
+
+/// Items that arrived at 40, without cards.
+fn items(alloc: Global, uids: &[u32]) -> Result<Vec<(Item, Option<Card>)>, Fail> {
+    let mut items = Vec::new(alloc);
+    for uid in uids {
+        let item = Item {
+            uid: *uid,
+            arrival: 40,
+            seen: None,
+            held: Held::Fault(Fault::NoFields),
+        };
+        items.push((item, None))?;
+    }
+    Ok(items)
+}
+
+fn taken(alloc: Global, mailbox: &mut Mailbox, step: Step) -> Result<Turn, Fail> {
+    match step {
+        Step::Mail(id, date) => arrives(mailbox, dated(alloc, id, date)?),
+        Step::Fault => made(mailbox, Change::ArriveFault(Fault::NoFrom)),
+        Step::Expunge(uid) => made(mailbox, Change::Expunge(uid)),
+        Step::Seen(uid) => made(mailbox, Change::Seen(uid)),
+        Step::At(moment) => made(mailbox, Change::At(moment.min(LAST_MOMENT))),
+    }
+}
+
+#[test]
+fn changes_move_the_present_cards(rt: HostRuntime) -> Result<(), Fail> {
+    let alloc = rt.alloc();
+    let mut mailbox = Mailbox::new(alloc, addr(alloc, ME)?);
+    for (step, turn) in STEPS {
+        let taken = taken(alloc, &mut mailbox, step)?;
+        assert_eq!(rt; told(alloc, &taken)?.as_str(), turn);
+    }
+    let mut left = LEFT.iter();
+    for item in mailbox.items() {
+        assert_eq!(rt; Some(&(item.uid, item.arrival, item.seen)), left.next());
+    }
+    assert_eq!(rt; left.next(), None);
+    Ok(())
+}
+
+#[test]
+fn an_empty_mailbox_is_made_again(rt: HostRuntime) -> Result<(), Fail> {
+    let alloc = rt.alloc();
+    let mut mailbox = Mailbox::restore(alloc, addr(alloc, ME)?, 5, 9, Vec::new(alloc))?;
+    assert_eq!(rt; (mailbox.now(), mailbox.next_uid(), mailbox.items().len()), (5, 9, 0));
+    let taken = taken(alloc, &mut mailbox, Step::Mail("a", 7))?;
+    assert_eq!(rt; told(alloc, &taken)?.as_str(), "add 5 9");
+    Ok(())
+}
+
+/// Uids from 1 on, but for some.
+const GAPS: [u32; 4] = [2, 3, 7, 8];
+
+#[test]
+fn uids_may_have_gaps(rt: HostRuntime) -> Result<(), Fail> {
+    let alloc = rt.alloc();
+    let items = items(alloc, &GAPS)?;
+    let mailbox = Mailbox::restore(alloc, addr(alloc, ME)?, 50, 10, items)?;
+    for uid in 0..11u32 {
+        let is_there = mailbox.item(uid).is_some();
+        assert_eq!(rt; is_there, GAPS.contains(&uid));
+    }
+    Ok(())
+}
+
+/// The most items: 65,536.
+#[test]
+fn items_are_limited(rt: HostRuntime) -> Result<(), Fail> {
+    let alloc = rt.alloc();
+    let mut mailbox = Mailbox::new(alloc, addr(alloc, ME)?);
+    for _ in 0..65_536u32 {
+        let _taken = made(&mut mailbox, Change::ArriveFault(Fault::NoFrom))?;
+    }
+    let fault = Change::ArriveFault(Fault::NoFrom);
+    assert_eq!(rt; mailbox.plan(&fault), Err(PlanFault::Full));
+    let _taken = made(&mut mailbox, Change::Expunge(1))?;
+    assert_eq!(rt; mailbox.plan(&fault), Ok(Turn::Nothing));
+    Ok(())
+}
+
+/// The last uid: 4,294,967,294.
+#[test]
+fn uids_are_limited(rt: HostRuntime) -> Result<(), Fail> {
+    let alloc = rt.alloc();
+    let last = 4_294_967_294;
+    let mut mailbox = Mailbox::restore(alloc, addr(alloc, ME)?, 0, last, Vec::new(alloc))?;
+    let _taken = made(&mut mailbox, Change::ArriveFault(Fault::NoFrom))?;
+    assert_eq!(rt; mailbox.item(last).is_some(), true);
+    let fault = Change::ArriveFault(Fault::NoFrom);
+    assert_eq!(rt; mailbox.plan(&fault), Err(PlanFault::Full));
+    Ok(())
+}
+
+/// A card with an id of three bytes that weighs 1,048,576: 78, and 1,046 times 1,002 for an id of 998 bytes, and 406 for
+/// a text of so many.
+fn heavy(alloc: Global, longest: &Id, n: u32) -> Result<Card, Fail> {
+    let mut references = Items::new(alloc);
+    for _ in 0..1_046u32 {
+        references.push(longest.copy()?)?;
+    }
+    let text = Text::from("x".repeat(alloc, 406)?);
+    let mut card = dated(alloc, format!(in alloc; "{n}")?.as_str(), 0)?;
+    card.date = None;
+    card.references = references;
+    card.text = text;
+    Ok(card)
+}
+
+/// The most that all cards weigh together: 268,435,456, which is 256 times 1,048,576.
+#[test]
+fn weights_are_limited(rt: HostRuntime) -> Result<(), Fail> {
+    let alloc = rt.alloc();
+    let mut mailbox = Mailbox::new(alloc, addr(alloc, ME)?);
+    let longest = id(alloc, "x".repeat(alloc, 998)?.as_str())?;
+    for n in 100..356u32 {
+        let card = heavy(alloc, &longest, n)?;
+        assert_eq!(rt; weight(&card), 1_048_576);
+        let _taken = arrives(&mut mailbox, card)?;
+    }
+    let fault = Change::ArriveFault(Fault::NoFrom);
+    assert_eq!(rt; mailbox.plan(&fault), Ok(Turn::Nothing));
+    let light = Change::Arrive(dated(alloc, "a", 0)?);
+    assert_eq!(rt; mailbox.plan(&light), Err(PlanFault::Full));
+    Ok(())
+}
