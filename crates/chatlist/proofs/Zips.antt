@@ -1,5 +1,5 @@
 -- Two lists of one length, as a list of pairs.
-use Rattle.std.proofs.Common.{◌≡◌, ◌<◌, refl, sym, ap, ◌∙◌, ℕ, zero, suc, List, [], ◌∷◌, ◌++◌, length, map, take, drop, get_or, arith}
+use Rattle.std.proofs.Common.{◌≡◌, ◌<◌, refl, ap, ℕ, zero, suc, List, [], ◌∷◌, length, map, get_or, arith}
 use Rattle.std.specs.List.{insert, remove, zip}
 
 module _ {K V : Type 0} where

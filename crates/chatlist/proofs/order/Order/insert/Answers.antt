@@ -1,10 +1,4 @@
-use Rattle.std.proofs.Common.{◌≡◌, rules, length, vec_len, sym, ap, ◌∙◌, subst, arith}
-use Rattle.std.specs.List.{IsDistinct, zip}
-use Rattle.std.specs.List.Sorted.{IsStrictlySortedBy}
-use Rattle.std.proofs.lemmas.List.Edits.{length-insert}
-use Rattle.lists.specs.Sorted.{insert_by}
-use Rattle.mailbox_model.specs.ChatList.{dated_cmp}
-use Rattle.chatlist.specs.Orders.{same_key}
+use Rattle.std.proofs.Common.{◌≡◌, rules, length, vec_len, ap, arith}
 use Rattle.chatlist.proofs.Kept.{length_chats, kept_with, put_in}
 use Rattle.chatlist.proofs.order.Order.insert.Goals as goal
 

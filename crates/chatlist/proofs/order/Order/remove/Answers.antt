@@ -1,8 +1,4 @@
-use Rattle.std.proofs.Common.{◌≡◌, rules, length, vec_len, sym, ap, ◌∙◌, subst, arith}
-use Rattle.std.specs.List.{IsDistinct, zip}
-use Rattle.std.specs.List.Sorted.{IsStrictlySortedBy}
-use Rattle.mailbox_model.specs.ChatList.{dated_cmp}
-use Rattle.chatlist.specs.Orders.{same_key}
+use Rattle.std.proofs.Common.{◌≡◌, rules, length, vec_len, ap, arith}
 use Rattle.chatlist.proofs.Kept.{kept_at, kept_without, take_out}
 use Rattle.chatlist.proofs.order.Order.remove.Goals as goal
 

@@ -1,0 +1,1 @@
+-- The roster of a list of cards and one more.
