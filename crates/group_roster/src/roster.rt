@@ -1,8 +1,8 @@
 //! The roster of a chat: who is in it, how it is called, and when its mails vanish.
-ghost use Rattle.std.specs.Prelude.{◌≡◌, [], ◌∷◌, ◌++◌, List, IfOk, OnOk};
+ghost use Rattle.std.specs.Prelude.{◌≡◌, [], ◌∷◌, ◌++◌, if◌then◌else◌, List, IfOk, OnOk};
 ghost use Rattle.card_type.specs.declared.card.Card.{Card};
 ghost use Rattle.group_roster.specs.Standing.{StandsFor, roster_with};
-ghost use Rattle.mailbox_model.specs.Rosters.{first_members, group_after, no_roster, roster_after, roster_begun, thread_after, timer_after};
+ghost use Rattle.mailbox_model.specs.Rosters.{changes_members, changes_name, first_members, group_after, listed, no_roster, roster_after, roster_begun, thread_after, timer_after};
 
 use crate::said::{listed, with_people};
 use card_type::{Card, ChatKey};
@@ -55,7 +55,10 @@ fn begun_by(alloc: Global, key: &ChatKey, card: &Card, me: &Addr) -> Result<Rost
         ChatKey::Group(_) => (listed(alloc, card)?, card.group_name.copy()?),
         ChatKey::Thread(_) => (with_people(alloc, &[], card)?, card.subject.copy()?),
         ChatKey::SelfChat | ChatKey::Single(_) => {
-            (first_members(alloc, key, me)?, Text::from(String::new(alloc)))
+            (
+                first_members(alloc, key, me)?,
+                Text::from(String::new(alloc)),
+            )
         }
     };
     Ok(Roster {
@@ -66,6 +69,26 @@ fn begun_by(alloc: Global, key: &ChatKey, card: &Card, me: &Addr) -> Result<Rost
     })
 }
 
+/// The members of a group after a card of a member: those that the card lists, where it adds or removes one.
+fn renew_members(alloc: Global, members: &mut Items<Addr>, card: &Card) -> Result<(), Memory>
+    ensures { OnOk result (members.new ≡ (if changes_members card.now then listed card.now else members.old)) }
+{
+    if card.added.is_some() || card.removed.is_some() {
+        *members = listed(alloc, card)?;
+    }
+    Ok(())
+}
+
+/// The name of a group after a card of a member: that of the card, where it gives the group one.
+fn renew_name(name: &mut Text, card: &Card) -> Result<(), Memory>
+    ensures { OnOk result (name.new ≡ (if changes_name card.now then card.now.group_name else name.old)) }
+{
+    if card.renamed && !card.group_name.bytes().is_empty() {
+        *name = card.group_name.copy()?;
+    }
+    Ok(())
+}
+
 /// A further card of a group: one of a member may say the members, the name and the timer anew, and one of a stranger
 /// says nothing.
 fn add_to_group(alloc: Global, roster: &mut Roster, card: &Card) -> Result<(), Memory>
@@ -74,12 +97,8 @@ fn add_to_group(alloc: Global, roster: &mut Roster, card: &Card) -> Result<(), M
     if !roster.members.as_slice().contains(&card.from) {
         return Ok(());
     }
-    if card.added.is_some() || card.removed.is_some() {
-        roster.members = listed(alloc, card)?;
-    }
-    if card.renamed && !card.group_name.bytes().is_empty() {
-        roster.name = card.group_name.copy()?;
-    }
+    renew_members(alloc, &mut roster.members, card)?;
+    renew_name(&mut roster.name, card)?;
     roster.timer = timer_after(roster.timer, card);
     Ok(())
 }

@@ -72,7 +72,11 @@ pub(crate) fn listed(alloc: Global, card: &Card) -> Result<Items<Addr>, Memory>
 
 /// The members, and after them those of From, To and Cc of the card, each once. Takes memory; `Err` only when it runs
 /// out.
-pub(crate) fn with_people(alloc: Global, members: &[Addr], card: &Card) -> Result<Items<Addr>, Memory>
+pub(crate) fn with_people(
+    alloc: Global,
+    members: &[Addr],
+    card: &Card,
+) -> Result<Items<Addr>, Memory>
     ensures { IfOk result (λ all. all ≡ each_once (members.now ++ people card.now)) }
 {
     let mut said = IndexSet::new(alloc);
