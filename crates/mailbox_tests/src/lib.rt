@@ -3,3 +3,9 @@
 
 #[cfg(test)]
 mod cards;
+#[cfg(test)]
+mod chat_order;
+#[cfg(test)]
+mod rosters;
+#[cfg(test)]
+mod timers;
