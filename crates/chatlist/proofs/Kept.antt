@@ -260,6 +260,14 @@ kept_without ks vs chats key date i kept is here place =
       subst (IsDistinct same_key) (sym order) (once_without key date chats (subst (IsDistinct same_key) is kept.2)),
     )
 
+-- what is left without a key does not have it
+pub absent_left : (key : ChatKey) (chats : List Dated) → lookup (is_at (key_cmp key)) (without_key key chats) ≡ None
+absent_left key chats = lookup_without key chats key ∙ ap (λ b. cond b None (lookup (is_at (key_cmp key)) chats)) (ap is_eq (tied_itself keys_total key))
+
+-- nothing is left out where the key is not there
+pub nothing_left : (key : ChatKey) (chats : List Dated) → lookup (is_at (key_cmp key)) chats ≡ None → chats ≡ without_key key chats
+nothing_left key chats none = sym (none_filtered (of_key key) chats (none_found key chats none))
+
 -- ---- the dates of an order, by key
 
 module _ (dates : fin.FinMap key_cmp (Option ℕ)) (chats : List Dated) (is : dates ≡ fin.from_entries chats) (key : ChatKey) where
@@ -269,15 +277,8 @@ module _ (dates : fin.FinMap key_cmp (Option ℕ)) (chats : List Dated) (is : da
   pub dates_without : fin.remove dates key ≡ fin.from_entries (without_key key chats)
   dates_without = ap (λ m. fin.remove m key) is ∙ sym (remove_is keys_total keys_exact chats (without_key key chats) key (lookup_without key chats))
 
-  -- the chat is not there
-  pub nothing_without : fin.get dates key ≡ None → chats ≡ without_key key chats
-  nothing_without none = sym (none_filtered (of_key key) chats (none_found key chats (date_of ∙ none)))
-
   none_left : None_of (of_key key) (without_key key chats)
   none_left = filter_none (of_key key) chats
-
-  pub absent_without : lookup (is_at (key_cmp key)) (without_key key chats) ≡ None
-  absent_without = lookup_without key chats key ∙ ap (λ b. cond b None (lookup (is_at (key_cmp key)) chats)) (ap is_eq (tied_itself keys_total key))
 
   pub dates_with : (date : Option ℕ) → fin.insert dates key date ≡ fin.from_entries (with_place key date chats)
   dates_with date =

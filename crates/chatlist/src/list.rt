@@ -49,10 +49,8 @@ impl ChatList {
     {
         let own = key.copy()?;
         self.order.reserve()?;
-        if let Some(before) = self.dates.insert(key.copy()?, last)? {
-            self.order.remove(key, before);
-        }
-        self.order.insert(own, last);
+        let before = self.dates.insert(key.copy()?, last)?;
+        self.order.place(own, before, last);
         Ok(())
     }
 

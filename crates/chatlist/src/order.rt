@@ -7,7 +7,7 @@ ghost use Rattle.std.specs.Ordering.{is_lt};
 ghost use Rattle.card_type.specs.Keys.{key_cmp};
 ghost use Rattle.lists.specs.Sorted.{insert_by};
 ghost use Rattle.mailbox_model.specs.ChatList.{dated_cmp};
-ghost use Rattle.chatlist.specs.Places.{without_key};
+ghost use Rattle.chatlist.specs.Places.{with_place, without_key};
 ghost use Rattle.chatlist.specs.Orders.{IsPlaceOf};
 
 use card_type::ChatKey;
@@ -99,7 +99,7 @@ impl Order {
     }
 
     /// Puts a chat that is not there at its place. Takes no memory: room for it was made before.
-    pub(crate) fn insert(&mut self, key: ChatKey, date: Option<u64>)
+    fn insert(&mut self, key: ChatKey, date: Option<u64>)
         requires room { self.old.has_room ≡ true }
         requires absent { lookup (is_at (key_cmp key)) self.old.chats ≡ None }
         ensures { self.new.chats ≡ insert_by dated_cmp (key, date) self.old.chats }
@@ -120,5 +120,18 @@ impl Order {
         let place = self.place_of(key, date);
         self.keys.remove(place);
         self.dates.remove(place);
+    }
+
+    /// Puts a chat at its place, after it was taken out of the place that its date before gave it, if it had one. Takes
+    /// no memory: room for it was made before.
+    pub(crate) fn place(&mut self, key: ChatKey, before: Option<Option<u64>>, date: Option<u64>)
+        requires room { self.old.has_room ≡ true }
+        requires before { lookup (is_at (key_cmp key)) self.old.chats ≡ before }
+        ensures { self.new.chats ≡ with_place key date self.old.chats }
+    {
+        if let Some(before) = before {
+            self.remove(&key, before);
+        }
+        self.insert(key, date);
     }
 }

@@ -1,7 +1,7 @@
 use Rattle.std.proofs.Common.{sym, ap, ◌∙◌}
 use Rattle.std.specs.FinMap as map
 use Rattle.chatlist.specs.Places.{without_key}
-use Rattle.chatlist.proofs.Kept.{date_of, dates_without, nothing_without}
+use Rattle.chatlist.proofs.Kept.{date_of, dates_without, nothing_left}
 use Rattle.chatlist.proofs.list.ChatList.drop_key.Goals as goal
 
 pub remove-requires-in-Some : goal.remove-requires-in-Some
@@ -14,11 +14,14 @@ invariant_of-self c =
 
 pub invariant_of-self-in_default : goal.invariant_of-self-in_default
 invariant_of-self-in_default c =
-    let none = sym c.remove.ensures.before ∙ c.in_default.is in
-    c.remove.ensures.after ∙ dates_without c.self.inside.dates c.self.inside.order.chats c.self.invariant c.args.key.now
-    ∙ ap map.from_entries (sym (nothing_without c.self.inside.dates c.self.inside.order.chats c.self.invariant c.args.key.now none))
+    let key = c.args.key.now in
+    let chats = c.self.inside.order.chats in
+    let none = date_of c.self.inside.dates chats c.self.invariant key ∙ sym c.remove.ensures.before ∙ c.in_default.is in
+    c.remove.ensures.after ∙ dates_without c.self.inside.dates chats c.self.invariant key ∙ ap map.from_entries (sym (nothing_left key chats none))
 
 pub returns-in_default : goal.returns-in_default
 returns-in_default c =
-    nothing_without c.self.inside.dates c.self.inside.order.chats c.self.invariant c.args.key.now (sym c.remove.ensures.before ∙ c.in_default.is)
-    ∙ ap (without_key c.args.key.now) c.self.view_is
+    let key = c.args.key.now in
+    let chats = c.self.inside.order.chats in
+    let none = date_of c.self.inside.dates chats c.self.invariant key ∙ sym c.remove.ensures.before ∙ c.in_default.is in
+    nothing_left key chats none ∙ ap (without_key key) c.self.view_is
