@@ -6,11 +6,15 @@ use lists::Items;
 use std::alloc::Global;
 use std::test::Fail;
 
+fn set(alloc: Global, list: &mut ChatList, text: &str, date: Option<u64>) -> Result<(), Fail> {
+    Ok(list.set(&key(alloc, text)?, date)?)
+}
+
 /// Chats with the dates of their last shown rows, set one after the other.
 fn with_dates(alloc: Global, chats: &[(&str, Option<u64>)]) -> Result<ChatList, Fail> {
     let mut list = ChatList::new(alloc);
     for (text, date) in chats {
-        list.set(&key(alloc, text)?, *date)?;
+        set(alloc, &mut list, text, *date)?;
     }
     Ok(list)
 }
