@@ -61,15 +61,15 @@ fn id(alloc: Global, bytes: &str) -> Result<Id, Fail> {
     Ok(Id::read(alloc, bytes.as_bytes())?.ok_or("no id")?)
 }
 
-fn addr(alloc: Global, bytes: &str) -> Result<Addr, Fail> {
+pub(crate) fn addr(alloc: Global, bytes: &str) -> Result<Addr, Fail> {
     Ok(Addr::read(alloc, bytes.as_bytes())?.ok_or("no address")?)
 }
 
-fn text(alloc: Global, bytes: &str) -> Result<Text, Fail> {
+pub(crate) fn text(alloc: Global, bytes: &str) -> Result<Text, Fail> {
     Ok(Text::from(String::from_str(alloc, bytes)?))
 }
 
-fn key(alloc: Global, bytes: &str) -> Result<ChatKey, Fail> {
+pub(crate) fn key(alloc: Global, bytes: &str) -> Result<ChatKey, Fail> {
     match ChatKey::read(alloc, bytes.as_bytes())? {
         Some(key) => Ok(key),
         None => Err(Fail::from("no key")),
@@ -89,7 +89,7 @@ fn addrs(alloc: Global, bytes: &str) -> Result<Items<Addr>, Fail> {
 }
 
 /// A card that says no more than its id and its sender.
-fn plain(alloc: Global, from: &str, bytes: &str) -> Result<Card, Fail> {
+pub(crate) fn plain(alloc: Global, from: &str, bytes: &str) -> Result<Card, Fail> {
     let id = id(alloc, bytes)?;
     let from = addr(alloc, from)?;
     Ok(Card::new(alloc, id, from))

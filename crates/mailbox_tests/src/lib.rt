@@ -5,3 +5,9 @@
 mod boxes;
 #[cfg(test)]
 mod cards;
+#[cfg(test)]
+mod chat_order;
+#[cfg(test)]
+mod rosters;
+#[cfg(test)]
+mod timers;

@@ -1,0 +1,4 @@
+-- Lemmas.
+pub mod Searches
+pub mod Zips
+pub mod Kept

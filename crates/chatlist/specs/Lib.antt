@@ -1,0 +1,3 @@
+-- What public clauses cite; `Orders` apart, which only the crate's own clauses cite.
+pub mod Places
+pub mod Orders

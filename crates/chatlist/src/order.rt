@@ -1,0 +1,137 @@
+//! Chats in order, each with its date.
+ghost use Rattle.std.specs.Prelude.{◌≡◌, ◌≤◌, true, None, Some, [], length, map, OnOk};
+ghost use Rattle.std.specs.BTreeMap.{is_at};
+ghost use Rattle.std.specs.List.Sorted.{IsStrictlySortedBy};
+ghost use Rattle.std.specs.Map.{lookup};
+ghost use Rattle.std.specs.Ordering.{is_lt};
+ghost use Rattle.card_type.specs.Keys.{key_cmp};
+ghost use Rattle.lists.specs.Sorted.{insert_by};
+ghost use Rattle.mailbox_model.specs.ChatList.{dated_cmp};
+ghost use Rattle.chatlist.specs.Places.{with_place, without_key};
+ghost use Rattle.chatlist.specs.Orders.{IsPlaceOf};
+
+use card_type::ChatKey;
+use kit::Memory;
+use std::alloc::Global;
+use std::marker::Model;
+
+/// Chats, each with the date of its last shown row, in the order of the list; no key is there twice. The keys stand
+/// alone, so that they can be lent.
+#[derive(Drop)]
+pub(crate) struct Order {
+    keys: Vec<ChatKey>,
+    // The date of each, at the index of its key.
+    dates: Vec<Option<u64>>,
+}
+
+impl Model for Order {
+    ghost use Rattle.std.specs.Prelude.{◌≡◌, ◌&&◌, nat_lt, length};
+    ghost use Rattle.std.specs.List.{zip, IsDistinct};
+    ghost use Rattle.std.specs.List.Sorted.{IsStrictlySortedBy};
+    ghost use Rattle.std.specs.Vec.{vec_len, vec_capacity};
+    ghost use Rattle.mailbox_model.specs.ChatList.{dated_cmp};
+    ghost use Rattle.chatlist.specs.Orders.{Order, same_key};
+
+    ghost Value = { Order };
+
+    ghost view = { λ order. record {
+      chats = zip order.keys.items order.dates.items;
+      has_room = nat_lt (vec_len order.keys) (vec_capacity order.keys) && nat_lt (vec_len order.dates) (vec_capacity order.dates);
+    } };
+
+    ghost invariant = { λ order. (length order.keys.items ≡ length order.dates.items)
+        × IsStrictlySortedBy dated_cmp (zip order.keys.items order.dates.items)
+        × IsDistinct same_key (zip order.keys.items order.dates.items) };
+}
+
+/// Whether a chat comes before another one: the later first, chats without a date last, and then by key.
+fn is_before(key: &ChatKey, date: Option<u64>, other: &ChatKey, other_date: Option<u64>) -> bool
+    ensures { result ≡ is_lt (dated_cmp (key.now, date) (other.now, other_date)) }
+{
+    other_date.cmp(&date).then(key.cmp(other)).is_lt()
+}
+
+impl Order {
+    /// No chats. Takes no memory.
+    pub(crate) fn new(alloc: Global) -> Self
+        ensures { result.chats ≡ [] }
+    {
+        Order {
+            keys: Vec::new(alloc),
+            dates: Vec::new(alloc),
+        }
+    }
+
+    /// The keys, in order. Takes no memory.
+    pub(crate) fn keys(&self) -> &[ChatKey]
+        ensures keys { result.now ≡ map (λ d. d.0) self.now.chats }
+        ensures sorted { IsStrictlySortedBy dated_cmp self.now.chats }
+    {
+        &self.keys
+    }
+
+    /// Makes room for one more chat. Takes memory; `Err` only when it runs out.
+    pub(crate) fn reserve(&mut self) -> Result<(), Memory>
+        ensures room { OnOk result (self.new.has_room ≡ true) }
+        ensures same { self.new.chats ≡ self.old.chats }
+    {
+        self.keys.reserve(1)?;
+        self.dates.reserve(1)?;
+        Ok(())
+    }
+
+    /// The index of the first chat that does not come before this one, and the number of chats where there is none.
+    fn place_of(&self, key: &ChatKey, date: Option<u64>) -> usize
+        ensures bound { result ≤ length self.now.chats }
+        ensures place { IsPlaceOf (key.now, date) self.now.chats result }
+    {
+        let mut start = 0;
+        let mut end = self.keys.len();
+        while start < end {
+            let middle = start + (end - start) / 2;
+            if is_before(&self.keys[middle], self.dates[middle], key, date) {
+                start = middle + 1;
+            } else {
+                end = middle;
+            }
+        }
+        start
+    }
+
+    /// Puts a chat that is not there at its place. Takes no memory: room for it was made before.
+    fn insert(&mut self, key: ChatKey, date: Option<u64>)
+        requires room { self.old.has_room ≡ true }
+        requires absent { lookup (is_at (key_cmp key)) self.old.chats ≡ None }
+        ensures { self.new.chats ≡ insert_by dated_cmp (key, date) self.old.chats }
+    {
+        let place = self.place_of(&key, date);
+        let inserted: Result<_, _> = self.keys.insert(place, key);
+        let _ = inserted.unwrap();
+        let inserted: Result<_, _> = self.dates.insert(place, date);
+        let _ = inserted.unwrap();
+    }
+
+    /// Takes out a chat that has this date. Takes no memory.
+    pub(crate) fn remove(&mut self, key: &ChatKey, date: Option<u64>)
+        requires { lookup (is_at (key_cmp key.now)) self.old.chats ≡ Some date }
+        ensures chats { self.new.chats ≡ without_key key.now self.old.chats }
+        ensures room { self.new.has_room ≡ true }
+    {
+        let place = self.place_of(key, date);
+        self.keys.remove(place);
+        self.dates.remove(place);
+    }
+
+    /// Puts a chat at its place, after it was taken out of the place that its date before gave it, if it had one. Takes
+    /// no memory: room for it was made before.
+    pub(crate) fn place(&mut self, key: ChatKey, before: Option<Option<u64>>, date: Option<u64>)
+        requires room { self.old.has_room ≡ true }
+        requires before { lookup (is_at (key_cmp key)) self.old.chats ≡ before }
+        ensures { self.new.chats ≡ with_place key date self.old.chats }
+    {
+        if let Some(before) = before {
+            self.remove(&key, before);
+        }
+        self.insert(key, date);
+    }
+}

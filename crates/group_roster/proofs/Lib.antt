@@ -1,0 +1,3 @@
+-- Lemmas.
+pub mod Once
+pub mod Folds
