@@ -16,7 +16,8 @@ use Rattle.mailbox_model.specs.Lists.{Bytes}
 use Rattle.mailbox_model.specs.Chats.{cites_cmp, is_id_among, DistinctIds}
 use Rattle.mailbox_model.proofs.MailLaws.{bytes_turn}
 use Rattle.thread_links.proofs.WorkLaws.{Apart}
-use Rattle.thread_links.proofs.Working.{is_before, IsBetween}
+use Rattle.thread_links.specs.Work.{is_before, has_id}
+use Rattle.thread_links.proofs.Working.{IsBetween}
 
 -- the card with an id, and what stands before and after it
 pub record Place (ts : List Cites) (x : Cites) : Type 0 where
@@ -33,26 +34,34 @@ apart_all : (x : Cites) (ts : List Cites) → is_id_among ts x.spot.id ≡ false
 apart_all x [] n = tt
 apart_all x (t ∷ ts) n = let parts = or_parts (bytes_eq x.spot.id t.spot.id) (is_id_among ts x.spot.id) n in (bytes_turn t.spot.id x.spot.id ∙ parts.0, apart_all x ts parts.1)
 
-abbrev pub has_id : Bytes → Cites → Bool
-has_id id t = bytes_eq id t.spot.id
-
-among_later : (x t : Cites) (ts : List Cites) → Above cites_cmp t ts → is_id_among ts t.spot.id ≡ false → (p : Place ts x)
-    → (is_before t.spot x.spot ≡ true) × (bytes_eq t.spot.id x.spot.id ≡ false)
-among_later x t ts a n p = at p.before p.later (subst (Above cites_cmp t) p.is a) (subst (λ us. is_id_among us t.spot.id ≡ false) p.is n)
+-- cards in mail order, each with an id of its own, around one of them
+pub between : (before : List Cites) (x : Cites) (later : List Cites) → Rising cites_cmp (before ++ x ∷ later) → DistinctIds (before ++ x ∷ later) → IsBetween before x later
+between [] x later r d = record { below = tt; above = above_all x later r.0; first = tt; last = apart_all x later d.0 }
+between (t ∷ before) x later r d =
+    let b = between before x later r.1 d.1 in
+    let l = at before r.0 d.0 in
+    record { below = (l.0, b.below); above = b.above; first = (l.1, b.first); last = b.last }
   where
-    at : (before later : List Cites) → Above cites_cmp t (before ++ x ∷ later) → is_id_among (before ++ x ∷ later) t.spot.id ≡ false → (is_before t.spot x.spot ≡ true) × (bytes_eq t.spot.id x.spot.id ≡ false)
-    at [] later a n = (a.0, (or_parts (bytes_eq t.spot.id x.spot.id) (is_id_among later t.spot.id) n).0)
-    at (b ∷ before) later a n = at before later a.1 (or_parts (bytes_eq t.spot.id b.spot.id) (is_id_among (before ++ x ∷ later) t.spot.id) n).1
+    at : (us : List Cites) → Above cites_cmp t (us ++ x ∷ later) → is_id_among (us ++ x ∷ later) t.spot.id ≡ false → (is_before t.spot x.spot ≡ true) × (bytes_eq t.spot.id x.spot.id ≡ false)
+    at [] a n = (a.0, (or_parts (bytes_eq t.spot.id x.spot.id) (is_id_among later t.spot.id) n).0)
+    at (u ∷ us) a n = at us a.1 (or_parts (bytes_eq t.spot.id u.spot.id) (is_id_among (us ++ x ∷ later) t.spot.id) n).1
+
+record Found (ts : List Cites) (x : Cites) : Type 0 where
+  pub before : List Cites
+  pub later : List Cites
+  pub is : ts ≡ before ++ x ∷ later
 
 -- of cards in mail order, each with an id of its own, one that is found has its place
 pub place : (ts : List Cites) → Rising cites_cmp ts → DistinctIds ts → (id : Bytes) (x : Cites) → find (has_id id) ts ≡ Some x → Place ts x
-place [] r d id x h = cc
-place (t ∷ ts) r d id x h =
-    elim (has_id id t) as (λ b. cond b (Some t) (find (has_id id) ts) ≡ Some x → Place (t ∷ ts) x) [
-      | true ↦ λ k. let same : t ≡ x = cc in subst (Place (t ∷ ts)) same (record { before = []; later = ts; is = refl; between = record { below = tt; above = above_all t ts r.0; first = tt; last = apart_all t ts d.0 } })
-      | false ↦ λ k. let p = place ts r.1 d.1 id x k in let l = among_later x t ts r.0 d.0 p in
-          record { before = t ∷ p.before; later = p.later; is = ap (λ us. t ∷ us) p.is; between = record { below = (l.0, p.between.below); above = p.between.above; first = (l.1, p.between.first); last = p.between.last } }
-    ] h
+place ts r d id x h = let p = found_at ts h in record { before = p.before; later = p.later; is = p.is; between = between p.before x p.later (subst (Rising cites_cmp) p.is r) (subst DistinctIds p.is d) }
+  where
+    found_at : (us : List Cites) → find (has_id id) us ≡ Some x → Found us x
+    found_at [] k = cc
+    found_at (u ∷ us) k =
+        elim (has_id id u) as (λ b. cond b (Some u) (find (has_id id) us) ≡ Some x → Found (u ∷ us) x) [
+          | true ↦ λ l. let same : u ≡ x = cc in record { before = []; later = us; is = ap (λ v. v ∷ us) same }
+          | false ↦ λ l. let p = found_at us l in record { before = u ∷ p.before; later = p.later; is = ap (λ vs. u ∷ vs) p.is }
+        ] k
 
 -- ---- how much is left
 

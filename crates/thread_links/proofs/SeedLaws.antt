@@ -11,7 +11,7 @@ use Rattle.mailbox_model.specs.declared.links.Cites.{Cites}
 use Rattle.mailbox_model.specs.Lists.{Bytes}
 use Rattle.mailbox_model.specs.Chats.{chat_from, is_id_among}
 use Rattle.mailbox_model.proofs.MailLaws.{bytes_turn}
-use Rattle.thread_links.proofs.WorkLaws.{Chats, KeepRuleBut}
+use Rattle.thread_links.specs.Work.{Chats, KeepRuleBut}
 
 -- one that does not name x has one parent among two lists that differ by x alone
 pub same_parent : (x : Bytes) (es fs : List Cites) → ((id : Bytes) → bytes_eq x id ≡ false → is_id_among es id ≡ is_id_among fs id)

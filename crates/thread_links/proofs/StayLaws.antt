@@ -11,7 +11,9 @@ use Rattle.mailbox_model.specs.Lists.{Bytes}
 use Rattle.mailbox_model.specs.Chats.{known_chat, chats_of, chat_from, is_id_among, DistinctIds, parent_among, chat_among}
 use Rattle.mailbox_model.proofs.ChatLaws.{known_chat_known, known_after-append, is_some-known_chat, chat_by_parent}
 use Rattle.mailbox_model.proofs.MailLaws.{bytes_turn}
+use Rattle.thread_links.specs.Linked.{chat_of_parent}
 use Rattle.thread_links.proofs.SeedLaws.{same_parent}
+use Rattle.thread_links.proofs.WorkLaws.{same_found, find_in}
 
 -- ---- the earlier ones
 
@@ -50,23 +52,26 @@ distinct_without (b ∷ before) later x d = (fewer before d.0, distinct_without 
     fewer [] n = (or_parts (bytes_eq b.spot.id x.spot.id) (is_id_among later b.spot.id) n).1
     fewer (u ∷ us) n = let parts = or_parts (bytes_eq b.spot.id u.spot.id) (is_id_among (us ++ x ∷ later) b.spot.id) n in or_from (bytes_eq b.spot.id u.spot.id) (is_id_among (us ++ later) b.spot.id) parts.0 (fewer us parts.1)
 
-abbrev chat_of_parent : List Cites → List Cites → Cites → Option ChatKey
-chat_of_parent all earlier t = option_and_then (chat_among all) (parent_among earlier t)
-
 by_rule : (all earlier : List Cites) (t : Cites) (later : List Cites) → all ≡ earlier ++ t ∷ later → DistinctIds all
-    → chat_among all t.spot.id ≡ Some (chat_from t (chat_of_parent all earlier t))
-by_rule all earlier t later e d = subst (λ us. chat_among us t.spot.id ≡ Some (chat_from t (chat_of_parent us earlier t))) (sym e) (chat_by_parent earlier t later (subst DistinctIds e d))
+    → chat_among all t.spot.id ≡ Some (chat_from t (chat_of_parent earlier t later))
+by_rule all earlier t later e d = ap (λ us. chat_among us t.spot.id) e ∙ chat_by_parent earlier t later (subst DistinctIds e d)
+
+pub parent_in_chat : (before between later : List Cites) (x t : Cites) → is_among t.candidates x.spot.id ≡ false
+    → ((id : Bytes) → is_among t.candidates id ≡ true → chat_among (before ++ x ∷ between ++ t ∷ later) id ≡ chat_among (before ++ between ++ t ∷ later) id)
+    → chat_of_parent (before ++ x ∷ between) t later ≡ chat_of_parent (before ++ between) t later
+parent_in_chat before between later x t n same =
+    ap (option_and_then (chat_among (before ++ x ∷ between ++ t ∷ later))) (parent_stays before between x t n)
+    ∙ same_found (chat_among (before ++ x ∷ between ++ t ∷ later)) (chat_among (before ++ between ++ t ∷ later)) (parent_among (before ++ between) t)
+    (λ p h. sym (same p (find_in (is_id_among (before ++ between)) t.candidates p h)))
 
 pub chat_stays : (before between later : List Cites) (x t : Cites) → is_among t.candidates x.spot.id ≡ false
     → DistinctIds (before ++ x ∷ between ++ t ∷ later)
-    → chat_of_parent (before ++ x ∷ between ++ t ∷ later) (before ++ between) t ≡ chat_of_parent (before ++ between ++ t ∷ later) (before ++ between) t
+    → chat_of_parent (before ++ x ∷ between) t later ≡ chat_of_parent (before ++ between) t later
     → chat_among (before ++ x ∷ between ++ t ∷ later) t.spot.id ≡ chat_among (before ++ between ++ t ∷ later) t.spot.id
 chat_stays before between later x t n d same =
-    let with = before ++ x ∷ between ++ t ∷ later in
     let without = before ++ between ++ t ∷ later in
     let whole : DistinctIds (before ++ x ∷ (between ++ t ∷ later)) = subst DistinctIds (append_assoc before (x ∷ between) (t ∷ later)) d in
     let fewer : DistinctIds without = subst DistinctIds (sym (append_assoc before between (t ∷ later))) (distinct_without before (between ++ t ∷ later) x whole) in
-    by_rule with (before ++ x ∷ between) t later refl d
-    ∙ ap (λ p. Some (chat_from t (option_and_then (chat_among with) p))) (parent_stays before between x t n)
+    by_rule (before ++ x ∷ between ++ t ∷ later) (before ++ x ∷ between) t later refl d
     ∙ ap (λ o. Some (chat_from t o)) same
     ∙ sym (by_rule without (before ++ between) t later refl fewer)

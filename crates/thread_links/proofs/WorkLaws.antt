@@ -1,6 +1,6 @@
 -- The chats while a list of work is worked off, first to last: each card that is not on the list keeps the rule.
 use Rattle.std.proofs.Common.{◌≡◌, refl, sym, ap, ◌∙◌, subst, Bool, true, false, ◌||◌, cond, Option, Some, None, List, [], ◌∷◌, ◌++◌, ◌⊎◌, inl, inr, append_assoc, append-nil}
-use Rattle.std.specs.Prelude.{if◌then◌else◌, filter_map}
+use Rattle.std.specs.Prelude.{if◌then◌else◌}
 use Rattle.std.specs.List.{find, AllByRecursion, cons_option}
 use Rattle.std.specs.Option.{option_and_then, option_eq}
 use Rattle.std.specs.Str.{bytes_eq}
@@ -13,9 +13,9 @@ use Rattle.card_type.specs.declared.spot.Spot.{Spot}
 use Rattle.card_type.specs.Effects.{is_among}
 use Rattle.card_type.specs.Keys.{key_eq}
 use Rattle.mailbox_model.specs.declared.links.Cites.{Cites}
-use Rattle.mailbox_model.specs.declared.links.Moved.{Moved}
 use Rattle.mailbox_model.specs.Lists.{Bytes}
 use Rattle.mailbox_model.specs.Chats.{chat_from, is_id_among, parent_among, DistinctIds, chat_among, moved}
+use Rattle.thread_links.specs.Work.{Chats, KeepRuleBut, moves_to}
 use Rattle.mailbox_model.proofs.ChatLaws.{chat_by_parent}
 use Rattle.mailbox_model.proofs.MailLaws.{bytes_turn}
 use Rattle.mailbox_model.proofs.ListLaws.{key_self as key_alike}
@@ -44,15 +44,6 @@ all_both P Q R h (x ∷ xs) a b = (h x a.0 b.0, all_both P Q R h xs a.1 b.1)
 
 -- ---- the rule, but for the cards that are on a list
 
-abbrev pub Chats : Type 0
-Chats = Bytes → Option ChatKey
-
--- each card that is not on the list has the chat that follows from that of its parent
-abbrev pub KeepRuleBut : Chats → (Spot → Bool) → List Cites → List Cites → Type 0
-KeepRuleBut f pending earlier [] = Unit {0}
-KeepRuleBut f pending earlier (t ∷ ts) =
-    (pending t.spot ≡ false → f t.spot.id ≡ Some (chat_from t (option_and_then f (parent_among earlier t)))) × KeepRuleBut f pending (earlier ++ t ∷ []) ts
-
 -- the chats of cards keep it with any list
 pub chats_keep_but : (pending : Spot → Bool) (all earlier ts : List Cites) → all ≡ earlier ++ ts → DistinctIds all → KeepRuleBut (chat_among all) pending earlier ts
 chats_keep_but pending all earlier [] e d = tt
@@ -62,7 +53,7 @@ chats_keep_but pending all earlier (t ∷ ts) e d = (
 )
 
 -- what is found is in the list
-find_in : (p : Bytes → Bool) (ids : List Bytes) (id : Bytes) → find p ids ≡ Some id → is_among ids id ≡ true
+pub find_in : (p : Bytes → Bool) (ids : List Bytes) (id : Bytes) → find p ids ≡ Some id → is_among ids id ≡ true
 find_in p [] id h = cc
 find_in p (c ∷ ids) id h =
     elim (p c) as (λ b. cond b (Some c) (find p ids) ≡ Some id → (bytes_eq id c || is_among ids id) ≡ true) [
@@ -75,7 +66,7 @@ find_in p (c ∷ ids) id h =
     or_true false = refl
 
 -- two families that agree at the id that is found, if any
-same_found : (f g : Chats) (o : Option Bytes) → ((p : Bytes) → o ≡ Some p → g p ≡ f p) → option_and_then f o ≡ option_and_then g o
+pub same_found : (f g : Chats) (o : Option Bytes) → ((p : Bytes) → o ≡ Some p → g p ≡ f p) → option_and_then f o ≡ option_and_then g o
 same_found f g None h = refl
 same_found f g (Some p) h = sym (h p refl)
 
@@ -138,10 +129,6 @@ module _ (f g : Chats) (x : Cites) (others : (id : Bytes) → bytes_eq id x.spot
     )
 
 -- ---- the moves so far
-
--- the moves of these, from the old chats to those of f
-abbrev pub moves_to : Chats → Chats → List Cites → List Moved
-moves_to old f ts = filter_map (λ t. moved t.spot.id (old t.spot.id) (f t.spot.id)) ts
 
 key_self : (o : Option ChatKey) → option_eq key_eq o o ≡ true
 key_self None = refl

@@ -3,7 +3,6 @@ use Rattle.std.proofs.Common.{◌≡◌, refl, sym, ap, ◌∙◌, subst, Bool, 
 use Rattle.std.specs.Prelude.{if◌then◌else◌, unwrap_or}
 use Rattle.std.specs.List.{AllByRecursion, cons_option}
 use Rattle.std.specs.Option.{option_map, option_and_then}
-use Rattle.std.specs.Ordering.{is_lt}
 use Rattle.std.specs.Str.{bytes_eq}
 use Rattle.std.specs.Cmp.Lexicographic.{bytes_decides}
 use Rattle.std.proofs.lemmas.Bool.{both_ways}
@@ -20,16 +19,13 @@ use Rattle.mailbox_model.specs.declared.links.Moved.{Moved}
 use Rattle.mailbox_model.specs.Lists.{Bytes}
 use Rattle.mailbox_model.specs.Chats.{chat_from, is_id_among, parent_among, KeepRule, DistinctIds, chat_among, moved, moves}
 use Rattle.mailbox_model.proofs.ChatLaws.{chats_only}
-use Rattle.thread_links.proofs.WorkLaws.{all_append, all_right, all_by, all_both, Chats, KeepRuleBut, chats_keep_but, keep_without, Handed, looked_at, moves_to, no_moves, same_moves, Apart, one_move}
+use Rattle.thread_links.specs.Work.{Chats, is_before, KeepRuleBut, moves_to, IsWorking}
+use Rattle.thread_links.proofs.WorkLaws.{all_append, all_right, all_by, all_both, chats_keep_but, keep_without, Handed, looked_at, no_moves, same_moves, Apart, one_move}
 use Rattle.thread_links.proofs.SeedLaws.{Listed, seed_added, seed_removed}
 
 pub all_any : {X : Type 0} (P : X → Type 0) → ((x : X) → P x) → (xs : List X) → AllByRecursion P xs
 all_any P h [] = tt
 all_any P h (x ∷ xs) = (h x, all_any P h xs)
-
--- whether one spot comes before another
-abbrev pub is_before : Spot → Spot → Bool
-is_before a b = is_lt (spot_cmp a b)
 
 -- x stands between cards that come before it and cards that come after it, and none has its id
 pub record IsBetween (before : List Cites) (x : Cites) (later : List Cites) : Type 0 where
@@ -37,13 +33,6 @@ pub record IsBetween (before : List Cites) (x : Cites) (later : List Cites) : Ty
   pub above : AllByRecursion (λ t. is_before x.spot t.spot ≡ true) later
   pub first : Apart x before
   pub last : Apart x later
-
--- each card that is not on the list keeps the rule; those that are not before one that is on it are as before; and the
--- moves are told
-pub record IsWorking (old f : Chats) (pending : Spot → Bool) (all ts : List Cites) (told : List Moved) : Type 0 where
-  pub rule : KeepRuleBut f pending [] ts
-  pub fresh : (s : Spot) → pending s ≡ true → AllByRecursion (λ t. is_before t.spot s ≡ false → f t.spot.id ≡ old t.spot.id) all
-  pub moves : told ≡ moves_to old f all
 
 -- of cards around x, those that are not before a later spot have another id than x and come after it
 later_ones : (Q : Cites → Type 0) (s : Spot) (before : List Cites) (x : Cites) (later : List Cites) → IsBetween before x later → is_before x.spot s ≡ true

@@ -3,8 +3,12 @@
 #![tactic(auto)]
 
 mod cites;
+mod kept;
 mod laws;
+mod links;
+mod work;
 
 pub use cites::cites_of;
 pub use laws::a_card_moves_only_what_names_it;
+pub use links::Links;
 pub use mailbox_model::{Cites, Moved};
