@@ -3,3 +3,5 @@
 
 #[cfg(test)]
 mod cards;
+#[cfg(test)]
+mod links;

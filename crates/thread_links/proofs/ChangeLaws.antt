@@ -1,9 +1,9 @@
 -- What is kept once cites come or go, and the list of work with which that begins.
-use Rattle.std.proofs.Common.{◌≡◌, refl, sym, ap, ◌∙◌, subst, Bool, true, false, not, ◌||◌, ◌&&◌, cond, Option, Some, None, is_some, Result, Ok, Err, IfOk, List, [], ◌∷◌, ◌++◌, ◌⊎◌, inl, inr}
+use Rattle.std.proofs.Common.{Bor, ◌≡◌, refl, sym, ap, ◌∙◌, subst, Bool, true, false, not, ◌||◌, ◌&&◌, cond, Option, Some, None, is_some, Result, Ok, Err, IfOk, List, [], ◌∷◌, ◌++◌, ◌⊎◌, inl, inr}
 use Rattle.std.specs.Prelude.{if◌then◌else◌, OnOk}
 use Rattle.std.specs.List.{find, list_any, AllByRecursion, cons_option}
 use Rattle.std.specs.List.Sorted.{IsStrictlySortedBy}
-use Rattle.std.specs.Option.{option_map, option_and_then}
+use Rattle.std.specs.Option.{option_map, option_and_then, option_copied}
 use Rattle.std.specs.Ordering.{nat_cmp, is_lt}
 use Rattle.std.specs.Cmp.Lexicographic.{slice_cmp, bytes_decides}
 use Rattle.std.specs.Map.{lookup, keys_of}
@@ -349,3 +349,11 @@ settled_empty es cited e ids none = record {
   };
   chats = λ id. ap (λ us. chat_in us id) e ∙ ap (λ us. chat_among (cites_in us) id) (sym e);
 }
+
+-- just the cards that are kept have a chat
+pub has_chat : (lent : Option (Bor ChatKey)) (ts : List Cites) (id : Bytes) → option_copied lent ≡ chat_among ts id → is_some lent ≡ is_id_among ts id
+has_chat lent ts id e = alone lent ∙ ap is_some e ∙ is_some-known_chat [] ts id
+  where
+    alone : (o : Option (Bor ChatKey)) → is_some o ≡ is_some (option_copied o)
+    alone None = refl
+    alone (Some k) = refl

@@ -41,10 +41,6 @@ use Rattle.thread_links.proofs.Working.{look, finished, all_told}
 
 -- ---- what is put on the list
 
-or_assoc : (a b c : Bool) → (a || (b || c)) ≡ ((a || b) || c)
-or_assoc true b c = refl
-or_assoc false b c = refl
-
 or_true : (b : Bool) → (b || true) ≡ true
 or_true true = refl
 or_true false = refl

@@ -30,10 +30,6 @@ pub all_right : {X : Type 0} (P : X → Type 0) (xs ys : List X) → AllByRecurs
 all_right P [] ys a = a
 all_right P (x ∷ xs) ys a = all_right P xs ys a.1
 
-pub all_left : {X : Type 0} (P : X → Type 0) (xs ys : List X) → AllByRecursion P (xs ++ ys) → AllByRecursion P xs
-all_left P [] ys a = tt
-all_left P (x ∷ xs) ys a = (a.0, all_left P xs ys a.1)
-
 pub all_by : {X : Type 0} (P Q : X → Type 0) → ((x : X) → P x → Q x) → (xs : List X) → AllByRecursion P xs → AllByRecursion Q xs
 all_by P Q h [] a = tt
 all_by P Q h (x ∷ xs) a = (h x a.0, all_by P Q h xs a.1)

@@ -1,5 +1,5 @@
 //! The cards of kind Content by what they cite, and their chats.
-ghost use Rattle.std.specs.Prelude.{◌≡◌, [], true, false, map, is_ok, IfOk, OnOk};
+ghost use Rattle.std.specs.Prelude.{◌≡◌, [], true, false, map, is_ok, is_some, IfOk, OnOk};
 ghost use Rattle.std.specs.List.Sorted.{IsStrictlySortedBy};
 ghost use Rattle.std.specs.Option.{option_copied};
 ghost use Rattle.lists.specs.Sorted.{insert_by};
@@ -57,7 +57,8 @@ impl Links {
     /// The chat of the card with an id: `None` exactly where no kept cites have it. Takes no memory.
     pub fn chat_of(&self, id: &Id) -> Option<&ChatKey>
         requires whole { self.now.whole ≡ true }
-        ensures { option_copied result ≡ chat_among self.now.cites id.now }
+        ensures chat { option_copied result ≡ chat_among self.now.cites id.now }
+        ensures kept { is_some result ≡ is_id_among self.now.cites id.now }
     {
         self.kept.get(id)?.chat.as_ref()
     }
