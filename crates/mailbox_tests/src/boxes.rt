@@ -1,5 +1,7 @@
 //! The mailbox as it is kept: its changes, what they would do, its limits, and a mailbox made again.
-ghost use Rattle.std.specs.Prelude.{◌≡◌, false, OnOk};
+ghost use Rattle.std.specs.Prelude.{◌≡◌, false, None, OnOk};
+ghost use Rattle.mailbox_model.specs.declared.change.Fault.TheVariants as faults;
+ghost use Rattle.mailbox_model.specs.declared.item.Held.TheVariants as is_held;
 ghost use Rattle.mailbox_model.specs.Mailbox.{full, IsValidChange};
 ghost use Rattle.box_state.specs.Kept.{ready_for};
 
@@ -115,21 +117,6 @@ fn arrives(mailbox: &mut Mailbox, card: Card) -> Result<Turn, Fail> {
     made(mailbox, Change::Arrive(card))
 }
 
-/// Items that arrived at 40, without cards.
-fn items(alloc: Global, uids: &[u32]) -> Result<Vec<(Item, Option<Card>)>, Fail> {
-    let mut items = Vec::new(alloc);
-    for uid in uids {
-        let item = Item {
-            uid: *uid,
-            arrival: 40,
-            seen: None,
-            held: Held::Fault(Fault::NoFields),
-        };
-        items.push((item, None))?;
-    }
-    Ok(items)
-}
-
 fn taken(alloc: Global, mailbox: &mut Mailbox, step: Step) -> Result<Turn, Fail> {
     match step {
         Step::Mail(id, date) => arrives(mailbox, dated(alloc, id, date)?),
@@ -140,19 +127,43 @@ fn taken(alloc: Global, mailbox: &mut Mailbox, step: Step) -> Result<Turn, Fail>
     }
 }
 
+/// What a step would do, once it is done.
+fn step_told(alloc: Global, mailbox: &mut Mailbox, step: Step) -> Result<String, Fail> {
+    let turn = taken(alloc, mailbox, step)?;
+    told(alloc, &turn)
+}
+
+/// Whether the mailbox has no place for a mail without a card.
+fn is_full(mailbox: &Mailbox) -> bool {
+    matches!(
+        mailbox.plan(&Change::ArriveFault(Fault::NoFrom)),
+        Err(PlanFault::Full)
+    )
+}
+
+/// So many mails without a card arrive.
+fn faults(mailbox: &mut Mailbox, count: u32) -> Result<(), Fail> {
+    for _ in 0..count {
+        let _nothing = made(mailbox, Change::ArriveFault(Fault::NoFrom))?;
+    }
+    Ok(())
+}
+
 #[test]
 fn changes_move_the_present_cards(rt: HostRuntime) -> Result<(), Fail> {
     let alloc = rt.alloc();
     let mut mailbox = Mailbox::new(alloc, addr(alloc, ME)?);
     for (step, turn) in STEPS {
-        let taken = taken(alloc, &mut mailbox, step)?;
-        assert_eq!(rt; told(alloc, &taken)?.as_str(), turn);
+        assert_eq!(rt; step_told(alloc, &mut mailbox, step)?.as_str(), turn);
     }
-    let mut left = LEFT.iter();
-    for item in mailbox.items() {
-        assert_eq!(rt; Some(&(item.uid, item.arrival, item.seen)), left.next());
+    for (index, left) in LEFT.iter().enumerate() {
+        let item = mailbox
+            .items()
+            .get(index)
+            .map(|item| (item.uid, item.arrival, item.seen));
+        assert_eq!(rt; item, Some(*left));
     }
-    assert_eq!(rt; left.next(), None);
+    assert_eq!(rt; mailbox.items().len(), LEFT.len());
     Ok(())
 }
 
@@ -160,39 +171,59 @@ fn changes_move_the_present_cards(rt: HostRuntime) -> Result<(), Fail> {
 fn an_empty_mailbox_is_made_again(rt: HostRuntime) -> Result<(), Fail> {
     let alloc = rt.alloc();
     let mut mailbox = Mailbox::restore(alloc, addr(alloc, ME)?, 5, 9, Vec::new(alloc))?;
-    assert_eq!(rt; (mailbox.now(), mailbox.next_uid(), mailbox.items().len()), (5, 9, 0));
-    let taken = taken(alloc, &mut mailbox, Step::Mail("a", 7))?;
-    assert_eq!(rt; told(alloc, &taken)?.as_str(), "add 5 9");
+    assert_eq!(rt;
+        (mailbox.now(), mailbox.next_uid(), mailbox.items().len()),
+        (5, 9, 0)
+    );
+    assert_eq!(rt;
+        step_told(alloc, &mut mailbox, Step::Mail("a", 7))?.as_str(),
+        "add 5 9"
+    );
     Ok(())
 }
 
-/// Uids from 1 on, but for some.
-const GAPS: [u32; 4] = [2, 3, 7, 8];
+/// A mail that arrived at 40, and has no card.
+fn item(uid: u32) -> Item
+    ensures { result ≡ record { uid = uid; arrival = 40; seen = None; held = is_held.Fault faults.NoFields } }
+{
+    Item {
+        uid,
+        arrival: 40,
+        seen: None,
+        held: Held::Fault(Fault::NoFields),
+    }
+}
+
+/// A mailbox with the uids 2 and 7.
+fn with_gaps(alloc: Global) -> Result<Mailbox, Fail> {
+    let me = addr(alloc, ME)?;
+    let mut items = Vec::new(alloc);
+    items.push((item(2), None))?;
+    items.push((item(7), None))?;
+    Ok(Mailbox::restore(alloc, me, 50, 10, items)?)
+}
 
 #[test]
 fn uids_may_have_gaps(rt: HostRuntime) -> Result<(), Fail> {
-    let alloc = rt.alloc();
-    let items = items(alloc, &GAPS)?;
-    let mailbox = Mailbox::restore(alloc, addr(alloc, ME)?, 50, 10, items)?;
+    let mut mailbox = with_gaps(rt.alloc())?;
     for uid in 0..11u32 {
-        let is_there = mailbox.item(uid).is_some();
-        assert_eq!(rt; is_there, GAPS.contains(&uid));
+        assert_eq!(rt; mailbox.item(uid).is_some(), uid == 2 || uid == 7);
     }
+    assert_eq!(rt;
+        step_told(rt.alloc(), &mut mailbox, Step::Mail("a", 60))?.as_str(),
+        "add 50 10"
+    );
     Ok(())
 }
 
 /// The most items: 65,536.
 #[test]
 fn items_are_limited(rt: HostRuntime) -> Result<(), Fail> {
-    let alloc = rt.alloc();
-    let mut mailbox = Mailbox::new(alloc, addr(alloc, ME)?);
-    for _ in 0..65_536u32 {
-        let _taken = made(&mut mailbox, Change::ArriveFault(Fault::NoFrom))?;
-    }
-    let fault = Change::ArriveFault(Fault::NoFrom);
-    assert_eq!(rt; mailbox.plan(&fault), Err(PlanFault::Full));
-    let _taken = made(&mut mailbox, Change::Expunge(1))?;
-    assert_eq!(rt; mailbox.plan(&fault), Ok(Turn::Nothing));
+    let mut mailbox = Mailbox::new(rt.alloc(), addr(rt.alloc(), ME)?);
+    faults(&mut mailbox, 65_535)?;
+    assert_eq!(rt; is_full(&mailbox), false);
+    faults(&mut mailbox, 1)?;
+    assert_eq!(rt; is_full(&mailbox), true);
     Ok(())
 }
 
@@ -202,20 +233,28 @@ fn uids_are_limited(rt: HostRuntime) -> Result<(), Fail> {
     let alloc = rt.alloc();
     let last = 4_294_967_294;
     let mut mailbox = Mailbox::restore(alloc, addr(alloc, ME)?, 0, last, Vec::new(alloc))?;
-    let _taken = made(&mut mailbox, Change::ArriveFault(Fault::NoFrom))?;
-    assert_eq!(rt; mailbox.item(last).is_some(), true);
-    let fault = Change::ArriveFault(Fault::NoFrom);
-    assert_eq!(rt; mailbox.plan(&fault), Err(PlanFault::Full));
+    assert_eq!(rt; is_full(&mailbox), false);
+    faults(&mut mailbox, 1)?;
+    assert_eq!(rt;
+        (mailbox.item(last).is_some(), is_full(&mailbox)),
+        (true, true)
+    );
     Ok(())
+}
+
+/// So many copies of an id.
+fn copies(alloc: Global, id: &Id, count: u32) -> Result<Items<Id>, Fail> {
+    let mut copies = Items::new(alloc);
+    for _ in 0..count {
+        copies.push(id.copy()?)?;
+    }
+    Ok(copies)
 }
 
 /// A card with an id of three bytes that weighs 1,048,576: 78, and 1,046 times 1,002 for an id of 998 bytes, and 406 for
 /// a text of so many.
 fn heavy(alloc: Global, longest: &Id, n: u32) -> Result<Card, Fail> {
-    let mut references = Items::new(alloc);
-    for _ in 0..1_046u32 {
-        references.push(longest.copy()?)?;
-    }
+    let references = copies(alloc, longest, 1_046)?;
     let text = Text::from("x".repeat(alloc, 406)?);
     let mut card = dated(alloc, format!(in alloc; "{n}")?.as_str(), 0)?;
     card.date = None;
@@ -224,20 +263,35 @@ fn heavy(alloc: Global, longest: &Id, n: u32) -> Result<Card, Fail> {
     Ok(card)
 }
 
+/// Heavy cards arrive, with the ids from 100 on. What they weigh together.
+fn heavy_ones(alloc: Global, mailbox: &mut Mailbox, count: u32) -> Result<u64, Fail> {
+    let longest = id(alloc, "x".repeat(alloc, 998)?.as_str())?;
+    let mut total: u64 = 0;
+    for n in 0..count {
+        let card = heavy(alloc, &longest, 100u32.saturating_add(n))?;
+        total = total.saturating_add(weight(&card));
+        let _add = arrives(mailbox, card)?;
+    }
+    Ok(total)
+}
+
+/// Whether the mailbox has no place for a card.
+fn is_full_of_cards(alloc: Global, mailbox: &Mailbox) -> Result<bool, Fail> {
+    let change = Change::Arrive(dated(alloc, "a", 0)?);
+    Ok(matches!(mailbox.plan(&change), Err(PlanFault::Full)))
+}
+
 /// The most that all cards weigh together: 268,435,456, which is 256 times 1,048,576.
 #[test]
 fn weights_are_limited(rt: HostRuntime) -> Result<(), Fail> {
     let alloc = rt.alloc();
     let mut mailbox = Mailbox::new(alloc, addr(alloc, ME)?);
-    let longest = id(alloc, "x".repeat(alloc, 998)?.as_str())?;
-    for n in 100..356u32 {
-        let card = heavy(alloc, &longest, n)?;
-        assert_eq!(rt; weight(&card), 1_048_576);
-        let _taken = arrives(&mut mailbox, card)?;
-    }
-    let fault = Change::ArriveFault(Fault::NoFrom);
-    assert_eq!(rt; mailbox.plan(&fault), Ok(Turn::Nothing));
-    let light = Change::Arrive(dated(alloc, "a", 0)?);
-    assert_eq!(rt; mailbox.plan(&light), Err(PlanFault::Full));
+    assert_eq!(rt; heavy_ones(alloc, &mut mailbox, 255)?, 267_386_880);
+    assert_eq!(rt; is_full_of_cards(alloc, &mailbox)?, false);
+    assert_eq!(rt; heavy_ones(alloc, &mut mailbox, 1)?, 1_048_576);
+    assert_eq!(rt;
+        (is_full(&mailbox), is_full_of_cards(alloc, &mailbox)?),
+        (false, true)
+    );
     Ok(())
 }

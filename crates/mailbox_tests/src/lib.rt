@@ -8,8 +8,8 @@ mod cards;
 #[cfg(test)]
 mod chat_order;
 #[cfg(test)]
+mod deadlines;
+#[cfg(test)]
 mod links;
 #[cfg(test)]
 mod rosters;
-#[cfg(test)]
-mod timers;
