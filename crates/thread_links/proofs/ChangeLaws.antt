@@ -285,11 +285,6 @@ removed_begun es fs cited more i j id k found cites settled chats pending is =
     kept_before : (q : Bytes) (t : Cites) → cond (bytes_eq id q) None (find (has_id q) (cites_in es)) ≡ Some t → find (has_id q) (cites_in es) ≡ Some t
     kept_before q t h = elim (bytes_eq id q) as (λ b. cond b None (find (has_id q) (cites_in es)) ≡ Some t → find (has_id q) (cites_in es) ≡ Some t) [ true ↦ λ k. cc | false ↦ λ k. k ] h
 
--- the move of a card that goes is told first
-pub told_first : (told start : List Moved) (id copied : Bytes) (before : Option ChatKey) → told ≡ start ++ record { id = copied; before = before; after = None } ∷ [] → start ≡ [] → copied ≡ id
-    → told ≡ record { id = id; before = before; after = None } ∷ []
-told_first told start id copied before e none is = e ∙ (λ n. none n ++ record { id = is n; before = before; after = None } ∷ [])
-
 -- ---- what is on the list at first
 
 pub first_listed : (b w : Bool) → cond b true w ≡ false → w ≡ false

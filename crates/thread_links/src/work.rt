@@ -1,5 +1,5 @@
 //! A list of work: the cards whose chat may be another one, looked at in mail order.
-ghost use Rattle.std.specs.Prelude.{◌≡◌, ◌++◌, ◌||◌, ◌&&◌, ℕ, List, [], true, false, Some, None, is_some, IfOk, OnOk};
+ghost use Rattle.std.specs.Prelude.{◌≡◌, ◌++◌, ◌||◌, ◌&&◌, ℕ, List, [], ◌∷◌, true, false, Some, None, is_some, IfOk, OnOk};
 ghost use Rattle.std.specs.List.{cons_option, list_any};
 ghost use Rattle.std.specs.Option.{option_and_then, option_eq};
 ghost use Rattle.std.specs.Ordering.{eq_by_cmp};
@@ -156,6 +156,19 @@ pub(crate) fn add(
     work_off(kept, cited, work, Vec::new(alloc))
 }
 
+/// The move of a card that goes. Takes memory; `Err` only when it runs out.
+fn told_gone(alloc: Global, id: &Id, before: Option<ChatKey>) -> Result<Vec<Moved>, Memory>
+    ensures { IfOk result (λ told. told.items ≡ record { id = id.now; before = before; after = None } ∷ []) }
+{
+    let mut told = Vec::new(alloc);
+    told.push(Moved {
+        id: id.copy()?,
+        before,
+        after: None,
+    })?;
+    Ok(told)
+}
+
 /// Keeps the cites of a card that is kept no longer, and answers the cards that moved. Takes memory; `Err` only when it
 /// runs out.
 pub(crate) fn remove(
@@ -171,15 +184,10 @@ pub(crate) fn remove(
     ensures told { IfOk result (λ told. told.items
         ≡ moves (cites_in kept.old.entries) (cites_in kept.old.entries) (cites_in kept.new.entries)) }
 {
-    let mut told = Vec::new(alloc);
-    let Some(gone) = take_out(kept, cited, id) else {
-        return Ok(told);
+    let Some(Kept { cites, chat }) = take_out(kept, cited, id) else {
+        return Ok(Vec::new(alloc));
     };
-    let work = later_citing(alloc, cited, &gone.cites.spot)?;
-    told.push(Moved {
-        id: id.copy()?,
-        before: gone.chat,
-        after: None,
-    })?;
+    let told = told_gone(alloc, id, chat)?;
+    let work = later_citing(alloc, cited, &cites.spot)?;
     work_off(kept, cited, work, told)
 }
