@@ -1,6 +1,6 @@
 -- The spots of a mailbox and the copies of each id, and what each change does to them.
 use Rattle.std.proofs.Common.{◌≡◌, ◌≢◌, refl, sym, ap, ◌∙◌, subst, ℕ, ◌<◌, Bool, true, false, not, cond, nat_eq, Option, Some, None, Result, Ok, Err, List, [], ◌∷◌, ◌++◌, map, arith}
-use Rattle.std.specs.Prelude.{if◌then◌else◌, filter, filter_map, option_map, IfSome}
+use Rattle.std.specs.Prelude.{if◌then◌else◌, filter, filter_map, option_map}
 use Rattle.std.specs.List.{AllByRecursion, list_any, cons_option}
 use Rattle.std.specs.Ordering.{nat_cmp, is_lt, is_eq, ordering_then}
 use Rattle.std.specs.declared.cmp.Ordering.{Ordering}
@@ -25,7 +25,7 @@ use Rattle.mailbox_model.specs.Mailbox.{Mailbox, Entry, has_uid, entry_at, mark_
 use Rattle.mailbox_model.specs.Present.{Mail, placed_by, mail_by, mail_of, spot, has_id, mail_at, mail_cmp, mails}
 use Rattle.mailbox_model.specs.Turns.{is_mail, mark_mail}
 use Rattle.mailbox_model.proofs.MailLaws.{is_below, line_of, mails-expunge, mails-seen, AllUnder}
-use Rattle.mailbox_model.proofs.UidLaws.{mails_each, each_found}
+use Rattle.mailbox_model.proofs.UidLaws.{mails_own}
 use Rattle.box_state.specs.Spots.{SpotTable, spot_at, copies_at, copies_with, copies_but, dated, dated_cmp, ties}
 use Rattle.box_state.specs.Entries.{with_entry}
 use Rattle.box_state.specs.Inside.{AreSpots}
@@ -41,20 +41,7 @@ copy_in t = dated (spot t.placed)
 abbrev pub mail_with : Entry → Card → Mail
 mail_with e card = record { placed = placed_by e card; seen = e.seen }
 
--- each mail is that of the entry with its uid
-pub mails_own : (m : Mailbox) → RiseBelow 1 m.entries m.next_uid → AllByRecursion (λ t. mail_at m t.placed.uid ≡ Some t) (mails m)
-mails_own m u = mails_each (λ t. mail_at m t.placed.uid ≡ Some t) m (own m.entries (each_found 1 m.next_uid m.entries u))
-  where
-    own : (entries : List Entry) → AllByRecursion (λ e. entry_at m e.uid ≡ Some e) entries
-        → AllByRecursion (λ e. IfSome (mail_of e) (λ t. mail_at m t.placed.uid ≡ Some t)) entries
-    own [] a = tt
-    own (e ∷ es) a = (by e.read refl, own es a.1)
-      where
-        by : (read : Result Card Fault) → e.read ≡ read → IfSome (mail_by e read) (λ t. mail_at m t.placed.uid ≡ Some t)
-        by (Ok card) k = ap (λ o. o >>= mail_of) a.0 ∙ ap (mail_by e) k
-        by (Err fault) k = tt
-
--- and has that uid
+-- the mail under a uid has that uid
 pub mail_uid : (m : Mailbox) (uid : ℕ) (t : Mail) → mail_at m uid ≡ Some t → t.placed.uid ≡ uid
 mail_uid m uid t = by (entry_at m uid) refl
   where

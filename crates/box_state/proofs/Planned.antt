@@ -19,10 +19,10 @@ use Rattle.mailbox_model.specs.Present.{Mail, mail_by, mail_of, spot_of, has_id,
 use Rattle.mailbox_model.specs.Turns.{is_mail, is_unseen, turn, turn_out, turn_without}
 use Rattle.mailbox_model.proofs.MailLaws.{line_of, mails-expunge}
 use Rattle.mailbox_model.proofs.PresentLaws.{present_first, present_once}
-use Rattle.mailbox_model.proofs.UidLaws.{present_own}
+use Rattle.mailbox_model.proofs.UidLaws.{mails_own, present_own}
 use Rattle.box_state.specs.Spots.{SpotTable, spot_at, copies_at}
 use Rattle.box_state.specs.Inside.{AreSpots}
-use Rattle.box_state.proofs.Places.{spot_in, copy_in, mail_with, mails_own}
+use Rattle.box_state.proofs.Places.{spot_in, copy_in, mail_with}
 
 -- ---- lists
 

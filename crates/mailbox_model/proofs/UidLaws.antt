@@ -78,11 +78,11 @@ pub present_each : (P : Mail → Type 0) (m : Mailbox) → AllByRecursion (λ e.
     → AllByRecursion P (present m)
 present_each P m a = All-firsts P same_id (mails m) (mails_each P m a)
 
--- ---- each present mail is that of the entry with its uid
+-- ---- each mail is that of the entry with its uid
 
-pub present_own : (m : Mailbox) → RiseBelow 1 m.entries m.next_uid
-    → AllByRecursion (λ t. mail_at m t.placed.uid ≡ Some t) (present m)
-present_own m u = present_each (λ t. mail_at m t.placed.uid ≡ Some t) m (own m.entries (each_found 1 m.next_uid m.entries u))
+pub mails_own : (m : Mailbox) → RiseBelow 1 m.entries m.next_uid
+    → AllByRecursion (λ t. mail_at m t.placed.uid ≡ Some t) (mails m)
+mails_own m u = mails_each (λ t. mail_at m t.placed.uid ≡ Some t) m (own m.entries (each_found 1 m.next_uid m.entries u))
   where
     own : (entries : List Entry) → AllByRecursion (λ e. entry_at m e.uid ≡ Some e) entries
         → AllByRecursion (λ e. IfSome (mail_of e) (λ t. mail_at m t.placed.uid ≡ Some t)) entries
@@ -92,6 +92,10 @@ present_own m u = present_each (λ t. mail_at m t.placed.uid ≡ Some t) m (own 
         by : (read : Result Card Fault) → e.read ≡ read → IfSome (mail_by e read) (λ t. mail_at m t.placed.uid ≡ Some t)
         by (Ok card) k = ap (λ o. o >>= mail_of) a.0 ∙ ap (mail_by e) k
         by (Err fault) k = tt
+
+pub present_own : (m : Mailbox) → RiseBelow 1 m.entries m.next_uid
+    → AllByRecursion (λ t. mail_at m t.placed.uid ≡ Some t) (present m)
+present_own m u = All-firsts (λ t. mail_at m t.placed.uid ≡ Some t) same_id (mails m) (mails_own m u)
 
 -- ---- and has it alone
 
