@@ -1,0 +1,3 @@
+-- Lemmas.
+pub mod ByAddr
+pub mod Lasts

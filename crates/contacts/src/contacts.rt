@@ -1,0 +1,81 @@
+//! The contacts.
+ghost use Rattle.std.specs.Prelude.{◌≡◌, ◌≤◌, ◌+◌, ◌-◌, ◌<◌, ℕ, List, [], None, Some, not, true, ◌&&◌, nat_lt, map, unwrap_or, IfOk, OnOk};
+ghost use Rattle.std.specs.BTreeMap.{is_at};
+ghost use Rattle.std.specs.Cmp.Lexicographic.{slice_cmp};
+ghost use Rattle.std.specs.List.{AllByRecursion};
+ghost use Rattle.std.specs.List.Sorted.{IsStrictlySortedBy};
+ghost use Rattle.std.specs.Map.{lookup};
+ghost use Rattle.std.specs.Option.{option_copied};
+ghost use Rattle.std.specs.Ordering.{nat_cmp};
+ghost use Rattle.std.specs.Str.{bytes_eq};
+ghost use Rattle.card_type.specs.Effects.{is_among};
+ghost use Rattle.card_type.specs.Kinds.{has_some};
+ghost use Rattle.card_type.specs.Spots.{spot_cmp};
+ghost use Rattle.contacts.specs.Kept.{mentions_at, names_at, names_with, names_without, last_name, times_in};
+
+use crate::mentions::Mentions;
+use crate::names::Names;
+use card_type::{Card, Spot};
+use kit::{Addr, Memory, Text};
+use std::alloc::Global;
+use std::marker::Model;
+
+/// What is kept of the people of some cards, each at a spot: how often each address is mentioned, and under which names it
+/// wrote.
+#[derive(Drop)]
+pub struct Contacts {
+    mentions: Mentions,
+    names: Names,
+}
+
+impl Model for Contacts {
+    ghost use Rattle.contacts.specs.Kept.{Kept};
+
+    ghost Value = { Kept };
+
+    ghost view = { λ contacts. record { mentions = contacts.mentions; names = contacts.names } };
+}
+
+impl Contacts {
+    /// Those of no cards. Takes no memory.
+    pub fn new(alloc: Global) -> Self
+        ensures mentions { (addr : List ℕ) → mentions_at result.mentions addr ≡ 0 }
+        ensures names { (addr : List ℕ) → names_at result.names addr ≡ [] }
+    {
+        Contacts {
+            mentions: Mentions::new(alloc),
+            names: Names::new(alloc),
+        }
+    }
+
+    /// Adds a card at a spot where none is. Takes memory; `Err` only when it runs out, or where an address is mentioned
+    /// 2^64 - 1 times, and after it the contacts may only be dropped. Takes time that grows with the number of addresses of
+    /// the card, and with the logarithm of what is kept.
+    pub fn add(&mut self, spot: &Spot, card: &Card) -> Result<(), Memory>
+        requires absent { lookup (is_at (spot_cmp spot.now)) (names_at self.old.names card.now.from) ≡ None }
+        ensures mentions { OnOk result ((addr : List ℕ) → mentions_at self.new.mentions addr ≡ mentions_at self.old.mentions addr + times_in card.now addr) }
+        ensures names { OnOk result ((addr : List ℕ) → names_at self.new.names addr ≡ names_with spot.now card.now addr (names_at self.old.names addr)) }
+    {
+        self.mentions.add(card)?;
+        self.names.add(spot, card)
+    }
+
+    /// Removes the card that is kept at a spot. Takes no memory, and the time of `add`.
+    pub fn remove(&mut self, spot: &Spot, card: &Card)
+        requires mentioned { (addr : List ℕ) → times_in card.now addr ≤ mentions_at self.old.mentions addr }
+        requires named { has_some card.now.from_name ≡ true → lookup (is_at (spot_cmp spot.now)) (names_at self.old.names card.now.from) ≡ Some card.now.from_name }
+        ensures mentions { (addr : List ℕ) → mentions_at self.new.mentions addr ≡ mentions_at self.old.mentions addr - times_in card.now addr }
+        ensures names { (addr : List ℕ) → names_at self.new.names addr ≡ names_without spot.now card.now addr (names_at self.old.names addr) }
+    {
+        self.mentions.remove(card);
+        self.names.remove(spot, card);
+    }
+
+    /// The last name of an address in mail order: `None` exactly where it has none. Takes no memory, and time that grows with
+    /// the logarithm of the number of addresses and names.
+    pub fn name_of(&self, addr: &Addr) -> Option<&Text>
+        ensures { option_copied result ≡ last_name (names_at self.now.names addr.now) }
+    {
+        self.names.last(addr)
+    }
+}
