@@ -1,3 +1,4 @@
 -- Lemmas.
 pub mod ByAddr
 pub mod Lasts
+pub mod Pages

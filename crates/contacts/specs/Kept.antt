@@ -7,6 +7,7 @@ use Rattle.std.specs.Str.{bytes_eq}
 use Rattle.card_type.specs.declared.card.Card.{Card}
 use Rattle.card_type.specs.declared.spot.Spot.{Spot}
 use Rattle.card_type.specs.Spots.{spot_cmp}
+use Rattle.mailbox_model.specs.declared.contact.ContactRow.{ContactRow}
 use Rattle.mailbox_model.specs.Lists.{Bytes, last_of}
 use Rattle.mailbox_model.specs.Present.{Placed, spot}
 use Rattle.mailbox_model.specs.Chats.{people}
@@ -27,6 +28,13 @@ names_at names addr = unwrap_or (lookup (bytes_eq addr) names) []
 
 abbrev pub last_name : List (Spot × Bytes) → Option Bytes
 last_name names = option_map (λ given. given.1) (last_of names)
+
+-- its last name, else the address
+abbrev pub shown_name : Kept → Bytes → Bytes
+shown_name kept addr = unwrap_or (last_name (names_at kept.names addr)) addr
+
+abbrev pub contact_row : Kept → Bytes → ContactRow
+contact_row kept addr = record { addr = addr; name = shown_name kept addr }
 
 -- ---- a card that comes in or leaves
 

@@ -11,14 +11,16 @@ ghost use Rattle.std.specs.Str.{bytes_eq};
 ghost use Rattle.card_type.specs.Effects.{is_among};
 ghost use Rattle.card_type.specs.Kinds.{has_some};
 ghost use Rattle.card_type.specs.Spots.{spot_cmp};
-ghost use Rattle.contacts.specs.Kept.{mentions_at, names_at, names_with, names_without, last_name, times_in};
+ghost use Rattle.contacts.specs.Kept.{mentions_at, names_at, names_with, names_without, last_name, shown_name, times_in};
 
 use crate::mentions::Mentions;
 use crate::names::Names;
 use card_type::{Card, Spot};
 use kit::{Addr, Memory, Text};
+use mailbox_model::ContactRow;
 use std::alloc::Global;
 use std::marker::Model;
+use std::str;
 
 /// What is kept of the people of some cards, each at a spot: how often each address is mentioned, and under which names it
 /// wrote.
@@ -78,4 +80,42 @@ impl Contacts {
     {
         self.names.last(addr)
     }
+
+    /// The name of an address, else the address.
+    fn shown_name(&self, alloc: Global, addr: &Addr) -> Result<Text, Memory>
+        ensures { IfOk result (λ name. name ≡ shown_name self.now addr.now) }
+    {
+        match self.name_of(addr) {
+            Some(name) => name.copy(),
+            None => text_of(alloc, addr),
+        }
+    }
+
+    /// The contacts: each address that is mentioned but the own one, in the order of addresses, and the name under which it is
+    /// shown. Takes memory; `Err` only when it runs out. Takes the time of `name_of` for each address.
+    ///
+    /// - `order`: each address comes strictly before all that follow it.
+    /// - `all`: an address is there exactly where it is mentioned and is not the own one.
+    /// - `names`: its name is the last one, else the address.
+    pub fn page(&self, alloc: Global, me: &Addr) -> Result<Vec<ContactRow>, Memory>
+        ensures order { IfOk result (λ rows. IsStrictlySortedBy (slice_cmp nat_cmp) (map (λ row. row.addr) rows.items)) }
+        ensures all { IfOk result (λ rows. (addr : List ℕ) → is_among (map (λ row. row.addr) rows.items) addr ≡ (nat_lt 0 (mentions_at self.now.mentions addr) && not (bytes_eq me.now addr))) }
+        ensures names { IfOk result (λ rows. AllByRecursion (λ row. row.name ≡ shown_name self.now row.addr) rows.items) }
+    {
+        let addrs = self.mentions.others(alloc, me)?;
+        let mut rows = Vec::with_capacity(alloc, addrs.len())?;
+        for addr in addrs {
+            let name = self.shown_name(alloc, &addr)?;
+            rows.push(ContactRow { addr, name })?;
+        }
+        Ok(rows)
+    }
+}
+
+/// The bytes of an address as a text.
+fn text_of(alloc: Global, addr: &Addr) -> Result<Text, Memory>
+    ensures { IfOk result (λ text. text ≡ addr.now) }
+{
+    let text = String::from_str(alloc, str::from_utf8(addr.bytes()).unwrap())?;
+    Ok(Text::from(text))
 }

@@ -1,7 +1,11 @@
 //! How often each address is mentioned.
-ghost use Rattle.std.specs.Prelude.{◌≡◌, ◌+◌, ◌-◌, ℕ, List, false, IfOk, OnOk};
+ghost use Rattle.std.specs.Prelude.{◌≡◌, ◌+◌, ◌-◌, ◌&&◌, nat_lt, not, ℕ, List, false, IfOk, OnOk};
+ghost use Rattle.std.specs.Cmp.Lexicographic.{slice_cmp};
 ghost use Rattle.std.specs.List.{count_by};
+ghost use Rattle.std.specs.List.Sorted.{IsStrictlySortedBy};
+ghost use Rattle.std.specs.Ordering.{nat_cmp};
 ghost use Rattle.std.specs.Str.{bytes_eq};
+ghost use Rattle.card_type.specs.Effects.{is_among};
 ghost use Rattle.contacts.specs.Kept.{mentions_at, times_in};
 
 use card_type::Card;
@@ -31,6 +35,13 @@ fn one_more(count: u64) -> Result<u64, Memory>
     count.checked_add(1).ok_or(Memory)
 }
 
+/// Whether an address is mentioned, and is not the own one.
+fn is_other(me: &Addr, addr: &Addr, count: u64) -> bool
+    ensures { result ≡ (nat_lt 0 count && not (bytes_eq me.now addr.now)) }
+{
+    count > 0 && me != addr
+}
+
 impl Mentions {
     /// No mentions. Takes no memory.
     pub(crate) fn new(alloc: Global) -> Self
@@ -49,6 +60,20 @@ impl Mentions {
             Some(count) => *count,
             None => 0,
         }
+    }
+
+    /// The addresses that are mentioned but for one, in their order.
+    pub(crate) fn others(&self, alloc: Global, me: &Addr) -> Result<Vec<Addr>, Memory>
+        ensures order { IfOk result (λ addrs. IsStrictlySortedBy (slice_cmp nat_cmp) addrs.items) }
+        ensures all { IfOk result (λ addrs. (addr : List ℕ) → is_among addrs.items addr ≡ (nat_lt 0 (mentions_at self.now addr) && not (bytes_eq me.now addr))) }
+    {
+        let mut addrs = Vec::new(alloc);
+        for (addr, count) in &self.counts {
+            if is_other(me, addr, *count) {
+                addrs.push(addr.copy()?)?;
+            }
+        }
+        Ok(addrs)
     }
 
     /// Counts one mention more of an address. Takes memory; `Err` only when it runs out, or where the address is mentioned
