@@ -1,0 +1,3 @@
+-- Lemmas.
+pub mod ById
+pub mod Puts
