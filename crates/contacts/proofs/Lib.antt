@@ -2,3 +2,4 @@
 pub mod ByAddr
 pub mod Lasts
 pub mod Pages
+pub mod Standing

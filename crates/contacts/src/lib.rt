@@ -2,8 +2,10 @@
 #![tactic(auto)]
 
 mod contacts;
+mod laws;
 mod mentions;
 mod names;
 
 pub use contacts::Contacts;
+pub use laws::contacts_follow_from_cards;
 pub use mailbox_model::ContactRow;

@@ -2,6 +2,8 @@
 #![tactic(auto)]
 
 mod effects;
+mod laws;
 mod named;
 
 pub use effects::Effects;
+pub use laws::effects_follow_from_cards;
