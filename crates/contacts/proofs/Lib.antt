@@ -3,3 +3,5 @@ pub mod ByAddr
 pub mod Lasts
 pub mod Pages
 pub mod Standing
+pub mod Sorts
+pub mod PageLaws

@@ -16,7 +16,13 @@ ghost use Rattle.contacts.specs.Kept.{Kept, StandsFor, mentions_at, names_at, la
 /// What is kept of cards in mail order gives the contacts of those cards.
 ///
 /// - `name`: the last name of an address is the last nonempty one under which it wrote.
+/// - `page`: rows that keep the clauses of `Contacts::page` are the contacts of the rule.
 pub fn contacts_follow_from_cards()
     ensures name { (kept : Kept) (cards : List Placed) (addr : Bytes) → StandsFor kept cards
         → last_name (names_at kept.names addr) ≡ given_name (map (λ p. p.card) cards) addr }
+    ensures page { (kept : Kept) (cards : List Placed) (me : Bytes) (rows : List ContactRow) → StandsFor kept cards
+        → IsStrictlySortedBy (slice_cmp nat_cmp) (map (λ row. row.addr) rows)
+        → ((addr : Bytes) → is_among (map (λ row. row.addr) rows) addr ≡ (nat_lt 0 (mentions_at kept.mentions addr) && not (bytes_eq me addr)))
+        → AllByRecursion (λ row. row.name ≡ shown_name kept row.addr) rows
+        → rows ≡ contacts_by me (map (λ p. p.card) cards) }
 {}
