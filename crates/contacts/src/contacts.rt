@@ -1,16 +1,12 @@
 //! The contacts.
-ghost use Rattle.std.specs.Prelude.{◌≡◌, ◌≤◌, ◌+◌, ◌-◌, ◌<◌, ℕ, List, [], None, Some, not, true, ◌&&◌, nat_lt, map, unwrap_or, IfOk, OnOk};
-ghost use Rattle.std.specs.BTreeMap.{is_at};
+ghost use Rattle.std.specs.Prelude.{◌≡◌, ◌+◌, ◌-◌, ℕ, List, [], not, ◌&&◌, nat_lt, map, unwrap_or, IfOk, OnOk};
 ghost use Rattle.std.specs.Cmp.Lexicographic.{slice_cmp};
 ghost use Rattle.std.specs.List.{AllByRecursion};
 ghost use Rattle.std.specs.List.Sorted.{IsStrictlySortedBy};
-ghost use Rattle.std.specs.Map.{lookup};
 ghost use Rattle.std.specs.Option.{option_copied};
 ghost use Rattle.std.specs.Ordering.{nat_cmp};
 ghost use Rattle.std.specs.Str.{bytes_eq};
 ghost use Rattle.card_type.specs.Effects.{is_among};
-ghost use Rattle.card_type.specs.Kinds.{has_some};
-ghost use Rattle.card_type.specs.Spots.{spot_cmp};
 ghost use Rattle.contacts.specs.Kept.{mentions_at, names_at, names_with, names_without, last_name, shown_name, times_in};
 
 use crate::mentions::Mentions;
@@ -53,8 +49,10 @@ impl Contacts {
     /// Adds a card at a spot where none is. Takes memory; `Err` only when it runs out, or where an address is mentioned
     /// 2^64 - 1 times, and after it the contacts may only be dropped. Takes time that grows with the number of addresses of
     /// the card, and with the logarithm of what is kept.
+    ///
+    /// - `mentions`: each address is mentioned so often more as it is among From, To and Cc.
+    /// - `names`: the name of From, where it is not empty, stands in its place in mail order.
     pub fn add(&mut self, spot: &Spot, card: &Card) -> Result<(), Memory>
-        requires absent { lookup (is_at (spot_cmp spot.now)) (names_at self.old.names card.now.from) ≡ None }
         ensures mentions { OnOk result ((addr : List ℕ) → mentions_at self.new.mentions addr ≡ mentions_at self.old.mentions addr + times_in card.now addr) }
         ensures names { OnOk result ((addr : List ℕ) → names_at self.new.names addr ≡ names_with spot.now card.now addr (names_at self.old.names addr)) }
     {
@@ -63,9 +61,10 @@ impl Contacts {
     }
 
     /// Removes the card that is kept at a spot. Takes no memory, and the time of `add`.
+    ///
+    /// - `mentions`: each address is mentioned so often less as it is among From, To and Cc.
+    /// - `names`: the name at that spot is taken from the names of From.
     pub fn remove(&mut self, spot: &Spot, card: &Card)
-        requires mentioned { (addr : List ℕ) → times_in card.now addr ≤ mentions_at self.old.mentions addr }
-        requires named { has_some card.now.from_name ≡ true → lookup (is_at (spot_cmp spot.now)) (names_at self.old.names card.now.from) ≡ Some card.now.from_name }
         ensures mentions { (addr : List ℕ) → mentions_at self.new.mentions addr ≡ mentions_at self.old.mentions addr - times_in card.now addr }
         ensures names { (addr : List ℕ) → names_at self.new.names addr ≡ names_without spot.now card.now addr (names_at self.old.names addr) }
     {

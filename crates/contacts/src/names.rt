@@ -4,6 +4,7 @@ ghost use Rattle.std.specs.BTreeMap.{insert_entry, is_at};
 ghost use Rattle.std.specs.Map.{remove_entry};
 ghost use Rattle.std.specs.Option.{option_copied};
 ghost use Rattle.std.specs.Str.{bytes_eq};
+ghost use Rattle.card_type.specs.Kinds.{has_some};
 ghost use Rattle.card_type.specs.Spots.{spot_cmp};
 ghost use Rattle.contacts.specs.Kept.{names_at, names_with, names_without, last_name};
 
@@ -79,6 +80,13 @@ impl Model for Names {
     ghost view = { λ names. names.by_addr.entries };
 }
 
+/// Whether a card gives its sender a name.
+fn gives_name(card: &Card) -> bool
+    ensures { result ≡ has_some card.now.from_name }
+{
+    !card.from_name.bytes().is_empty()
+}
+
 impl Names {
     /// No names. Takes no memory.
     pub(crate) fn new(alloc: Global) -> Self
@@ -119,7 +127,7 @@ impl Names {
     pub(crate) fn add(&mut self, spot: &Spot, card: &Card) -> Result<(), Memory>
         ensures { OnOk result ((addr : List ℕ) → names_at self.new addr ≡ names_with spot.now card.now addr (names_at self.old addr)) }
     {
-        if !card.from_name.bytes().is_empty() {
+        if gives_name(card) {
             self.insert(&card.from, spot.copy()?, card.from_name.copy()?)?;
         }
         Ok(())
@@ -149,7 +157,7 @@ impl Names {
     pub(crate) fn remove(&mut self, spot: &Spot, card: &Card)
         ensures { (addr : List ℕ) → names_at self.new addr ≡ names_without spot.now card.now addr (names_at self.old addr) }
     {
-        if !card.from_name.bytes().is_empty() {
+        if gives_name(card) {
             self.take_out(&card.from, spot);
             self.drop_empty(&card.from);
         }

@@ -110,11 +110,7 @@ take_whole [] (suc i) h = refl
 take_whole (x ∷ xs) zero h = absurd (omega (arith, h))
 take_whole (x ∷ xs) (suc i) h = ap (λ ys. x ∷ ys) (take_whole xs i (omega (arith, h)))
 
-pub put_all : (spot : Spot) (card : Card) (q : Bytes) (spots : List Spot)
-    → (is_among (names card) q ≡ true → list_any (same_spot spot) spots ≡ false)
-    → (if is_among (names card) q then put_once spot spots else spots) ≡ named_with spot card q spots
-put_all spot card q spots absent =
-    elim (is_among (names card) q) as (λ b. is_among (names card) q ≡ b → (if b then put_once spot spots else spots) ≡ (if b then insert_by spot_cmp spot spots else spots)) [
-      | true ↦ λ e. rw (absent e) refl
-      | false ↦ λ e. refl
-    ] refl
+-- ---- a spot that is not there
+
+pub put_new : (spot : Spot) (spots : List Spot) → list_any (same_spot spot) spots ≡ false → put_once spot spots ≡ insert_by spot_cmp spot spots
+put_new spot spots absent = rw absent refl

@@ -23,14 +23,14 @@ same_spot = eq_by_cmp spot_cmp
 abbrev pub without_spot : Spot → List Spot → List Spot
 without_spot spot spots = filter (λ other. not (same_spot spot other)) spots
 
--- with a spot, once
+-- with a spot in its place in mail order, where it is not there yet
 abbrev pub put_once : Spot → List Spot → List Spot
 put_once spot spots = if list_any (same_spot spot) spots then spots else insert_by spot_cmp spot spots
 
 -- ---- a card that comes in or leaves
 
 abbrev pub named_with : Spot → Card → Bytes → List Spot → List Spot
-named_with spot card id spots = if is_among (names card) id then insert_by spot_cmp spot spots else spots
+named_with spot card id spots = if is_among (names card) id then put_once spot spots else spots
 
 abbrev pub named_without : Spot → Card → Bytes → List Spot → List Spot
 named_without spot card id spots = if is_among (names card) id then without_spot spot spots else spots

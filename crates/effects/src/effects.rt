@@ -1,10 +1,9 @@
 //! The mails that name each id.
-ghost use Rattle.std.specs.Prelude.{◌≡◌, ◌==◌, ℕ, List, [], false, true, length, map, take, OnOk};
-ghost use Rattle.std.specs.List.{list_any};
+ghost use Rattle.std.specs.Prelude.{◌≡◌, ◌==◌, ℕ, List, [], false, length, map, take, OnOk};
 ghost use Rattle.std.specs.Option.{option_to_list};
 ghost use Rattle.std.specs.Str.{bytes_eq};
-ghost use Rattle.card_type.specs.Effects.{is_among, names};
-ghost use Rattle.effects.specs.Named.{named, same_spot, named_with, named_without, put_once, without_spot};
+ghost use Rattle.card_type.specs.Effects.{names};
+ghost use Rattle.effects.specs.Named.{named, named_with, named_without, put_once, without_spot};
 
 use crate::named::Named;
 use card_type::{Card, Kind, Spot, kind_of};
@@ -129,10 +128,9 @@ impl Effects {
         }
     }
 
-    /// Adds a card at a spot under which none is kept for any id that the card names. An id that it names twice counts once.
+    /// Adds a card at a spot where none is: to the mails of each id that it names, once also where it names an id twice.
     /// Takes memory; `Err` only when it runs out, and after it the effects may only be dropped.
     pub fn add(&mut self, spot: &Spot, card: &Card) -> Result<(), Memory>
-        requires absent { (id : List ℕ) → is_among (names card.now) id ≡ true → list_any (same_spot spot.now) (named self.old id) ≡ false }
         ensures { OnOk result ((id : List ℕ) → named self.new id ≡ named_with spot.now card.now id (named self.old id)) }
     {
         for id in names(card) {
@@ -141,9 +139,8 @@ impl Effects {
         Ok(())
     }
 
-    /// Removes the card that is kept at a spot under each id that it names. Takes no memory.
+    /// Removes the card that is kept at a spot, from the mails of each id that it names. Takes no memory.
     pub fn remove(&mut self, spot: &Spot, card: &Card)
-        requires kept { (id : List ℕ) → is_among (names card.now) id ≡ true → list_any (same_spot spot.now) (named self.old id) ≡ true }
         ensures { (id : List ℕ) → named self.new id ≡ named_without spot.now card.now id (named self.old id) }
     {
         for id in names(card) {

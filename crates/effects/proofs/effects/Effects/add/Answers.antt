@@ -1,6 +1,6 @@
 use Rattle.std.proofs.Common.{◌≡◌, ◌∙◌, ap, length, take}
 use Rattle.effects.specs.Named.{named, put_once}
-use Rattle.effects.proofs.Puts.{done, done_more, take_whole, put_twice, put_all}
+use Rattle.effects.proofs.Puts.{done, done_more, take_whole, put_twice}
 use Rattle.effects.proofs.effects.Effects.add.Goals as goal
 
 pub loop-id-preserved : goal.loop-id-preserved
@@ -15,4 +15,3 @@ returns c q =
     let before = named c.args.self.now q in
     c.loop-id.invariant q
     ∙ ap (λ ids. done (put_once c.args.spot.now) ids q before) (take_whole c.names-id-items.result.now c.loop-id.id-index c.loop-id-test.false ∙ c.names-id-items.ensures)
-    ∙ put_all c.args.spot.now c.args.card.now q before (c.requires.absent q)
