@@ -1,4 +1,5 @@
 //! Cards: their kinds and effects, their weight and rules, keys of chats and spots.
+use crate::made::{addr, addrs, id, ids, plain, text};
 use card_type::{
     Card, ChatKey, Effect, GroupId, KeyMap, Kind, Payload, Spot, Update, effect_of, is_valid,
     kind_of, valid_group, weight,
@@ -57,42 +58,11 @@ const IN_ORDER: [&str; 8] = [
     "thread:b",
 ];
 
-fn id(alloc: Global, bytes: &str) -> Result<Id, Fail> {
-    Ok(Id::read(alloc, bytes.as_bytes())?.ok_or("no id")?)
-}
-
-fn addr(alloc: Global, bytes: &str) -> Result<Addr, Fail> {
-    Ok(Addr::read(alloc, bytes.as_bytes())?.ok_or("no address")?)
-}
-
-fn text(alloc: Global, bytes: &str) -> Result<Text, Fail> {
-    Ok(Text::from(String::from_str(alloc, bytes)?))
-}
-
 fn key(alloc: Global, bytes: &str) -> Result<ChatKey, Fail> {
     match ChatKey::read(alloc, bytes.as_bytes())? {
         Some(key) => Ok(key),
         None => Err(Fail::from("no key")),
     }
-}
-
-fn ids(alloc: Global, bytes: &str) -> Result<Items<Id>, Fail> {
-    let mut ids = Items::new(alloc);
-    ids.push(id(alloc, bytes)?)?;
-    Ok(ids)
-}
-
-fn addrs(alloc: Global, bytes: &str) -> Result<Items<Addr>, Fail> {
-    let mut addrs = Items::new(alloc);
-    addrs.push(addr(alloc, bytes)?)?;
-    Ok(addrs)
-}
-
-/// A card that says no more than its id and its sender.
-fn plain(alloc: Global, from: &str, bytes: &str) -> Result<Card, Fail> {
-    let id = id(alloc, bytes)?;
-    let from = addr(alloc, from)?;
-    Ok(Card::new(alloc, id, from))
 }
 
 /// The card of a mail of Bob's:

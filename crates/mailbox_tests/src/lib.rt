@@ -2,4 +2,10 @@
 #![tactic(auto)]
 
 #[cfg(test)]
+mod acting;
+#[cfg(test)]
 mod cards;
+#[cfg(test)]
+mod made;
+#[cfg(test)]
+mod people;
