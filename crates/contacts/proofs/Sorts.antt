@@ -1,11 +1,11 @@
 -- Addresses that are sorted, each once.
-use Rattle.std.proofs.Common.{◌≡◌, ◌≢◌, refl, sym, ap, ◌∙◌, subst, ℕ, ◌+◌, Bool, true, false, not, ◌||◌, ◌&&◌, cond, List, [], ◌∷◌, ◌++◌, nat_lt, map, arith}
-use Rattle.std.specs.Prelude.{filter, fold, flat_map}
+use Rattle.std.proofs.Common.{◌≡◌, refl, sym, ap, ◌∙◌, subst, ℕ, ◌+◌, Bool, true, false, not, ◌||◌, ◌&&◌, cond, List, [], ◌∷◌, nat_lt, arith}
+use Rattle.std.specs.Prelude.{fold, flat_map}
 use Rattle.std.specs.List.{AllByRecursion, IsDistinct, list_any, count_by, sum_by}
 use Rattle.std.specs.List.Sorted.{IsStrictlySortedBy}
 use Rattle.std.specs.Ordering.{nat_cmp, is_eq, ordering_reverse}
 use Rattle.std.specs.declared.cmp.Ordering.{Ordering}
-use Rattle.std.specs.declared.cmp.Ordering.TheVariants.{Less, Equal, Greater}
+use Rattle.std.specs.declared.cmp.Ordering.TheVariants.{Less, Greater}
 use Rattle.std.specs.Cmp.Lexicographic.{slice_cmp, bytes_decides}
 use Rattle.std.specs.Str.{bytes_eq}
 use Rattle.std.proofs.lemmas.Bool.{both_ways, false≢true}
@@ -14,8 +14,8 @@ use Rattle.std.proofs.lemmas.Cmp.{nat_list_cmp_total, nat_list_eq_equiv}
 use Rattle.std.proofs.lemmas.List.Folds.{list_any-append}
 use Rattle.std.proofs.lemmas.List.Sums.{sum_by-cons}
 use Rattle.std.proofs.lemmas.Map.Text.{is_eq-slice_cmp}
-use Rattle.lists.specs.Distinct.{firsts, each_once}
-use Rattle.lists.specs.Sorted.{insert_by, sorted_by}
+use Rattle.lists.specs.Distinct.{each_once}
+use Rattle.lists.specs.Sorted.{insert_by}
 use Rattle.lists.proofs.DistinctLaws.{IsDistinct-filter, IsDistinct-firsts, firsts-member}
 use Rattle.lists.proofs.Inserts.{None_of, Placed, All-insert_by, Rising-insert_by, list_any-insert_by}
 use Rattle.lists.proofs.Rising.{Rising, apart, below_of, never_back, sorted_from}

@@ -2,8 +2,6 @@
 use Rattle.std.proofs.Common.{◌≡◌, refl, sym, ap, ◌∙◌, Bool, true, false, cond, Option, Some, None, List, [], ◌∷◌, map}
 use Rattle.std.specs.Prelude.{filter, option_map}
 use Rattle.std.specs.Option.{option_or}
-use Rattle.card_type.specs.declared.card.Card.{Card}
-use Rattle.card_type.specs.declared.spot.Spot.{Spot}
 use Rattle.mailbox_model.specs.Contacts.{gives_name, given_name}
 use Rattle.mailbox_model.specs.Lists.{Bytes, last_of}
 use Rattle.mailbox_model.specs.Present.{Placed}

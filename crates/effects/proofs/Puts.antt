@@ -1,6 +1,6 @@
 -- Mails that are put under the ids of a list one after the other, or taken out.
-use Rattle.std.proofs.Common.{◌≡◌, refl, sym, ap, ◌∙◌, subst, ℕ, zero, suc, ◌+◌, ◌<◌, ◌≤◌, Bool, true, false, not, ◌||◌, cond, List, [], ◌∷◌, ◌++◌, length, map, take, drop, get_or, arith}
-use Rattle.std.specs.Prelude.{if◌then◌else◌, filter}
+use Rattle.std.proofs.Common.{◌≡◌, refl, sym, ap, ◌∙◌, subst, ℕ, zero, suc, ◌+◌, ◌<◌, ◌≤◌, Bool, true, false, ◌||◌, List, [], ◌∷◌, ◌++◌, length, map, take, drop, get_or, arith}
+use Rattle.std.specs.Prelude.{if◌then◌else◌}
 use Rattle.std.specs.List.{list_any, insert, remove}
 use Rattle.std.specs.Cmp.Lexicographic.{bytes_decides}
 use Rattle.std.specs.Str.{bytes_eq}
@@ -10,13 +10,12 @@ use Rattle.std.proofs.lemmas.List.{map-append}
 use Rattle.std.proofs.lemmas.List.Folds.{list_any-append}
 use Rattle.lists.specs.Sorted.{insert_by}
 use Rattle.lists.proofs.Inserts.{list_any-insert_by, none_filtered, filter_none}
-use Rattle.card_type.specs.declared.card.Card.{Card}
 use Rattle.card_type.specs.declared.spot.Spot.{Spot}
-use Rattle.card_type.specs.Effects.{is_among, names}
+use Rattle.card_type.specs.Effects.{is_among}
 use Rattle.card_type.specs.Spots.{spot_cmp}
 use Rattle.card_type.proofs.Orders.{spots_total}
 use Rattle.mailbox_model.specs.Lists.{Bytes}
-use Rattle.effects.specs.Named.{named, same_spot, put_once, without_spot, named_with, named_without}
+use Rattle.effects.specs.Named.{named, same_spot, put_once, without_spot}
 
 -- ---- a map over a list into which a value is put, or out of which one is taken
 
@@ -79,7 +78,7 @@ module _ (f : List Spot → List Spot) (twice : (spots : List Spot) → f (f spo
             subst (λ y. named new y ≡ done f (take (i + 1) xs) y (named old y)) same (here (is_among (take i xs) x) refl)
         | false ↦ λ e.
             let more : is_among (take (i + 1) xs) q ≡ is_among (take i xs) q =
-                among_more xs i x lt is q ∙ ap (λ b. is_among (take i xs) q || b) (nat_list_eq_equiv.symm q x ∙ e) ∙ or_false (is_among (take i xs) q) in
+            among_more xs i x lt is q ∙ ap (λ b. is_among (take i xs) q || b) (nat_list_eq_equiv.symm q x ∙ e) ∙ or_false (is_among (take i xs) q) in
             others q e ∙ before q ∙ ap (λ b. if b then f (named old q) else named old q) (sym more)
       ] refl
     where
@@ -98,7 +97,7 @@ module _ (f : List Spot → List Spot) (twice : (spots : List Spot) → f (f spo
       here : (b : Bool) → is_among (take i xs) x ≡ b → named new x ≡ done f (take (i + 1) xs) x (named old x)
       here b e =
           let more : is_among (take (i + 1) xs) x ≡ true =
-              among_more xs i x lt is x ∙ ap (λ c. is_among (take i xs) x || c) ((bytes_decides x x).1 refl) ∙ or_true (is_among (take i xs) x) in
+          among_more xs i x lt is x ∙ ap (λ c. is_among (take i xs) x || c) ((bytes_decides x x).1 refl) ∙ or_true (is_among (take i xs) x) in
           at ∙ ap f (before x ∙ ap (λ c. if c then f (named old x) else named old x) e)
           ∙ once b ∙ ap (λ c. if c then f (named old x) else named old x) (sym more)
 

@@ -1,5 +1,5 @@
 -- Who names an id.
-use Rattle.std.specs.Prelude.{◌≡◌, ℕ, Bool, not, if◌then◌else◌, List, [], map, filter, unwrap_or}
+use Rattle.std.specs.Prelude.{◌≡◌, Bool, not, if◌then◌else◌, List, [], map, filter, unwrap_or}
 use Rattle.std.specs.List.{list_any}
 use Rattle.std.specs.Ordering.{eq_by_cmp}
 use Rattle.std.specs.Map.{lookup}

@@ -1,4 +1,4 @@
-use Rattle.std.proofs.Common.{◌≡◌, ◌∙◌, ap, length, take}
+use Rattle.std.proofs.Common.{◌∙◌, ap}
 use Rattle.effects.specs.Named.{named, put_once}
 use Rattle.effects.proofs.Puts.{done, done_more, take_whole, put_twice}
 use Rattle.effects.proofs.effects.Effects.add.Goals as goal

@@ -1,4 +1,4 @@
-use Rattle.std.proofs.Common.{◌≡◌, ℕ, List, take, map}
+use Rattle.std.proofs.Common.{◌≡◌, ℕ, List, take}
 use Rattle.effects.specs.Named.{named, put_once}
 use Rattle.effects.proofs.Puts.{done}
 use Rattle.effects.proofs.effects.Effects.add.Given as goal

@@ -1,4 +1,4 @@
-use Rattle.std.proofs.Common.{◌≡◌, ◌∙◌, ap, length, take}
+use Rattle.std.proofs.Common.{◌∙◌, ap}
 use Rattle.effects.specs.Named.{named, without_spot}
 use Rattle.effects.proofs.Puts.{done, done_more, take_whole, taken_twice}
 use Rattle.effects.proofs.effects.Effects.remove.Goals as goal

@@ -1,4 +1,4 @@
-use Rattle.std.proofs.Common.{◌≡◌, ℕ, List, take, map}
+use Rattle.std.proofs.Common.{◌≡◌, ℕ, List, take}
 use Rattle.effects.specs.Named.{named, without_spot}
 use Rattle.effects.proofs.Puts.{done}
 use Rattle.effects.proofs.effects.Effects.remove.Given as goal
