@@ -65,7 +65,10 @@ fn page(alloc: Global, contacts: &Contacts) -> Result<String, Fail> {
 
 /// What leaves, and the page then.
 const LEAVING: [(u32, &str); 4] = [
-    (4, "ann@x.org | ann@x.org\nbob@x.org | Bobby\nzoe@x.org | zoe@x.org\n"),
+    (
+        4,
+        "ann@x.org | ann@x.org\nbob@x.org | Bobby\nzoe@x.org | zoe@x.org\n",
+    ),
     (2, "ann@x.org | ann@x.org\nbob@x.org | Bob\n"),
     (1, "ann@x.org | ann@x.org\nbob@x.org | bob@x.org\n"),
     (3, ""),
@@ -77,7 +80,10 @@ fn the_last_name_counts(rt: HostRuntime) -> Result<(), Fail> {
     for arrivals in ARRIVALS {
         let mut contacts = all(alloc, arrivals)?;
         let full = page(alloc, &contacts)?;
-        assert_eq!(rt; full.as_str(), "ann@x.org | ann@x.org\nbob@x.org | Robert\nzoe@x.org | zoe@x.org\n");
+        assert_eq!(rt;
+            full.as_str(),
+            "ann@x.org | ann@x.org\nbob@x.org | Robert\nzoe@x.org | zoe@x.org\n"
+        );
         for (uid, lines) in LEAVING {
             turn(alloc, &mut contacts, uid, false)?;
             let left = page(alloc, &contacts)?;
