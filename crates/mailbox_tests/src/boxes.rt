@@ -5,9 +5,10 @@ ghost use Rattle.mailbox_model.specs.declared.item.Held.TheVariants as is_held;
 ghost use Rattle.mailbox_model.specs.Mailbox.{full, IsValidChange};
 ghost use Rattle.box_state.specs.Kept.{ready_for};
 
+use crate::made::{addr, id, plain};
 use box_state::{Change, Fault, Held, Item, Mailbox, PlanFault, Turn};
 use card_type::{Card, is_valid, weight};
-use kit::{Addr, Id, LAST_MOMENT, Text};
+use kit::{Id, LAST_MOMENT, Text};
 use lists::Items;
 use std::alloc::Global;
 use std::test::Fail;
@@ -61,18 +62,8 @@ const STEPS: [(Step, &str); 22] = [
 /// What is left of them: uid, arrival and seen moment.
 const LEFT: [(u32, u64, Option<u64>); 2] = [(6, 100, None), (7, 100, None)];
 
-fn id(alloc: Global, bytes: &str) -> Result<Id, Fail> {
-    Ok(Id::read(alloc, bytes.as_bytes())?.ok_or("no id")?)
-}
-
-fn addr(alloc: Global, bytes: &str) -> Result<Addr, Fail> {
-    Ok(Addr::read(alloc, bytes.as_bytes())?.ok_or("no address")?)
-}
-
 fn dated(alloc: Global, bytes: &str, date: u64) -> Result<Card, Fail> {
-    let id = id(alloc, bytes)?;
-    let from = addr(alloc, BOB)?;
-    let mut card = Card::new(alloc, id, from);
+    let mut card = plain(alloc, BOB, bytes)?;
     card.date = Some(date);
     Ok(card)
 }

@@ -1,9 +1,10 @@
 //! Cards: their kinds and effects, their weight and rules, keys of chats and spots.
+use crate::made::{addr, addrs, id, ids, key, plain, text};
 use card_type::{
     Card, ChatKey, Effect, GroupId, KeyMap, Kind, Payload, Spot, Update, effect_of, is_valid,
     kind_of, valid_group, weight,
 };
-use kit::{Addr, Id, LAST_MOMENT, Text};
+use kit::{LAST_MOMENT, Text};
 use lists::Items;
 use std::alloc::Global;
 use std::test::Fail;
@@ -56,44 +57,6 @@ const IN_ORDER: [&str; 8] = [
     "thread:a@x.org",
     "thread:b",
 ];
-
-fn id(alloc: Global, bytes: &str) -> Result<Id, Fail> {
-    Ok(Id::read(alloc, bytes.as_bytes())?.ok_or("no id")?)
-}
-
-pub(crate) fn addr(alloc: Global, bytes: &str) -> Result<Addr, Fail> {
-    Ok(Addr::read(alloc, bytes.as_bytes())?.ok_or("no address")?)
-}
-
-pub(crate) fn text(alloc: Global, bytes: &str) -> Result<Text, Fail> {
-    Ok(Text::from(String::from_str(alloc, bytes)?))
-}
-
-pub(crate) fn key(alloc: Global, bytes: &str) -> Result<ChatKey, Fail> {
-    match ChatKey::read(alloc, bytes.as_bytes())? {
-        Some(key) => Ok(key),
-        None => Err(Fail::from("no key")),
-    }
-}
-
-fn ids(alloc: Global, bytes: &str) -> Result<Items<Id>, Fail> {
-    let mut ids = Items::new(alloc);
-    ids.push(id(alloc, bytes)?)?;
-    Ok(ids)
-}
-
-fn addrs(alloc: Global, bytes: &str) -> Result<Items<Addr>, Fail> {
-    let mut addrs = Items::new(alloc);
-    addrs.push(addr(alloc, bytes)?)?;
-    Ok(addrs)
-}
-
-/// A card that says no more than its id and its sender.
-pub(crate) fn plain(alloc: Global, from: &str, bytes: &str) -> Result<Card, Fail> {
-    let id = id(alloc, bytes)?;
-    let from = addr(alloc, from)?;
-    Ok(Card::new(alloc, id, from))
-}
 
 /// The card of a mail of Bob's:
 ///

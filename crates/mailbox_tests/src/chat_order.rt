@@ -1,5 +1,5 @@
 //! The order of chats in the list.
-use crate::cards::key;
+use crate::made::key;
 use card_type::ChatKey;
 use chatlist::ChatList;
 use lists::Items;

@@ -2,6 +2,8 @@
 #![tactic(auto)]
 
 #[cfg(test)]
+mod acting;
+#[cfg(test)]
 mod boxes;
 #[cfg(test)]
 mod cards;
@@ -11,5 +13,9 @@ mod chat_order;
 mod deadlines;
 #[cfg(test)]
 mod links;
+#[cfg(test)]
+mod made;
+#[cfg(test)]
+mod people;
 #[cfg(test)]
 mod rosters;

@@ -1,8 +1,9 @@
 //! What cards cite, and the chats that follow from it while cards come and go.
 ghost use Rattle.std.specs.Prelude.{◌≡◌, true, OnOk};
 
+use crate::made::{addr, id};
 use card_type::{Card, ChatKey, Kind, Spot, kind_of};
-use kit::{Addr, Id};
+use kit::Id;
 use lists::Items;
 use std::alloc::Global;
 use std::test::Fail;
@@ -132,14 +133,6 @@ const NEARER: [Row; 5] = [
         "b - group:abcdefghijk, c thread:a group:abcdefghijk",
     ),
 ];
-
-fn id(alloc: Global, bytes: &str) -> Result<Id, Fail> {
-    Ok(Id::read(alloc, bytes.as_bytes())?.ok_or("no id")?)
-}
-
-fn addr(alloc: Global, bytes: &str) -> Result<Addr, Fail> {
-    Ok(Addr::read(alloc, bytes.as_bytes())?.ok_or("no address")?)
-}
 
 /// The ids that are not empty, in their order.
 fn ids(alloc: Global, texts: [&str; 2]) -> Result<Items<Id>, Fail> {

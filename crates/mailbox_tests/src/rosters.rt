@@ -1,5 +1,5 @@
 //! The members, the name and the timer of a chat, after each of its mails.
-use crate::cards::{addr, key, plain, text};
+use crate::made::{addr, key, plain, text};
 use card_type::{Card, ChatKey};
 use group_roster::{Roster, add, begin};
 use kit::{Addr, Memory};

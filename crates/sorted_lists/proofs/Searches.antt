@@ -1,5 +1,5 @@
 -- What a binary search finds among values in order, and what an insert or a removal there does.
-use Rattle.std.proofs.Common.{◌≡◌, ◌≢◌, refl, sym, ap, ◌∙◌, subst, ℕ, zero, suc, ◌+◌, ◌<◌, ◌≤◌, true, false, not, ◌||◌, ◌⊎◌, inl, inr, List, [], ◌∷◌, length, get_or, Result, Ok, Err, arith}
+use Rattle.std.proofs.Common.{◌≡◌, ◌≢◌, refl, sym, ap, ◌∙◌, subst, ℕ, Bool, zero, suc, ◌+◌, ◌<◌, ◌≤◌, true, false, not, ◌||◌, ◌⊎◌, inl, inr, List, [], ◌∷◌, length, get_or, Result, Ok, Err, is_ok, arith}
 use Rattle.std.specs.Prelude.{if◌then◌else◌, filter}
 use Rattle.std.specs.List.{insert, remove, list_any, AllByRecursion, HoldsAt}
 use Rattle.std.specs.List.Sorted.{IsStrictlySortedBy, IsNonDecreasingBy, IsPartitionPoint, IsBinarySearchResult, IsSearchInRange}
@@ -122,3 +122,13 @@ module _ {X : Type 0} (cmp : X → X → Ordering) (total : IsTotalOrder cmp) wh
     ap is_eq (turned x v Less (p.0 0 x (omega arith) (omega arith))),
     none_found v xs i (omega (arith, h)) (λ k d low high. p.0 (suc k) d (omega arith) (omega (arith, high)), λ k d low high. p.1 (suc k) d (omega (arith, low)) (omega (arith, high))),
   )
+
+  any_none : (p : X → Bool) (xs : List X) → None_of p xs → list_any p xs ≡ false
+  any_none p [] n = refl
+  any_none p (x ∷ xs) n = rw n.0 (any_none p xs n.1)
+
+  -- a search finds a value just where one ties
+  pub searched : (v : X) (xs : List X) (r : Result ℕ ℕ) → IsStrictlySortedBy cmp xs → IsSearchInRange r (length xs)
+      → IsBinarySearchResult (λ y. cmp y v) xs r → is_ok r ≡ list_any (eq_by_cmp cmp v) xs
+  searched v xs (Ok k) sorted range found = sym (absent v xs k range found)
+  searched v xs (Err k) sorted range found = sym (any_none (eq_by_cmp cmp v) xs (none_found v xs k range (found (comparisons_rise v xs sorted))))

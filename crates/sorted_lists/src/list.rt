@@ -1,6 +1,6 @@
 //! One list of values in order.
-ghost use Rattle.std.specs.Prelude.{◌≡◌, ◌<◌, [], false, not, filter, OnOk};
-ghost use Rattle.std.specs.List.{list_any};
+ghost use Rattle.std.specs.Prelude.{◌≡◌, ◌<◌, ◌≤◌, [], false, not, length, filter, IfSome, IfNone, OnOk};
+ghost use Rattle.std.specs.List.{list_any, insert, remove};
 ghost use Rattle.std.specs.List.Sorted.{IsStrictlySortedBy};
 ghost use Rattle.std.specs.Ordering.{eq_by_cmp};
 ghost use Rattle.lists.specs.Sorted.{insert_by};
@@ -57,23 +57,42 @@ impl<T: Ord + Drop> SortedList<T> {
         Ok(self.values.reserve(1)?)
     }
 
-    /// Inserts a value that ties with none, in its place. Takes no memory: room for it was made before.
-    pub fn insert(&mut self, value: T)
+    /// Whether a value ties with this one. Takes no memory, and time that grows with the logarithm of their number.
+    pub fn contains(&self, value: &T) -> bool
+        ensures { result ≡ list_any (eq_by_cmp T.cmp value.now) self.now.values }
+    {
+        self.values.binary_search(value).is_ok()
+    }
+
+    /// Inserts a value that ties with none, in its place, and returns the index of that place. Takes no memory: room for it
+    /// was made before.
+    pub fn insert(&mut self, value: T) -> usize
         requires room { 0 < self.old.spare }
         requires absent { list_any (eq_by_cmp T.cmp value) self.old.values ≡ false }
-        ensures { self.new.values ≡ insert_by T.cmp value self.old.values }
+        ensures values { self.new.values ≡ insert_by T.cmp value self.old.values }
+        ensures within { result ≤ length self.old.values }
+        ensures place { self.new.values ≡ insert self.old.values result value }
     {
         let (Ok(index) | Err(index)) = self.values.binary_search(&value);
         let inserted: Result<_, _> = self.values.insert(index, value);
         inserted.unwrap();
+        index
     }
 
-    /// Takes the value out that ties with this one, where there is one. Takes no memory.
-    pub fn remove(&mut self, value: &T)
-        ensures { self.new.values ≡ filter (λ other. not (eq_by_cmp T.cmp value.now other)) self.old.values }
+    /// Takes the value out that ties with this one, and returns the index that it had: `None` exactly where there is none.
+    /// Takes no memory.
+    pub fn remove(&mut self, value: &T) -> Option<usize>
+        ensures values { self.new.values ≡ filter (λ other. not (eq_by_cmp T.cmp value.now other)) self.old.values }
+        ensures within { IfSome result (λ index. index < length self.old.values) }
+        ensures place { IfSome result (λ index. self.new.values ≡ remove self.old.values index) }
+        ensures none { IfNone result (self.new.values ≡ self.old.values) }
     {
-        if let Ok(index) = self.values.binary_search(value) {
-            let _removed = self.values.remove(index);
+        match self.values.binary_search(value) {
+            Ok(index) => {
+                let _removed = self.values.remove(index);
+                Some(index)
+            }
+            Err(_) => None,
         }
     }
 }

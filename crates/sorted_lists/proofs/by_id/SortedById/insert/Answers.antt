@@ -31,7 +31,7 @@ returns-clause-at g c = elim c.match-get_mut.branch [
       let values = ap values_of (sym found) ∙ sym (values_are c.self.inside.lists.entries id) ∙ ap (λ lists. values_at lists id) c.self.view_is in
       rw w.self-inside-is
       (values_here c.self.inside.lists.entries (c.get_mut.follows.lender list).entries id (Some list) ((c.get_mut.follows.holds list).3 some).0
-      ∙ w.insert.ensures ∙ ap (insert_by g.T.Ord.cmp c.args.value) values)
+      ∙ w.insert.ensures.values ∙ ap (insert_by g.T.Ord.cmp c.args.value) values)
       )
   | in_default w ↦ (
       let id = c.args.id.now in

@@ -19,7 +19,7 @@ returns-clause-at g c = elim c.match-get_mut.branch [
       let values = ap values_of (sym found) ∙ sym (values_are c.self.inside.lists.entries id) ∙ ap (λ lists. values_at lists id) c.self.view_is in
       rw w.self-inside-is
       (values_here c.self.inside.lists.entries (c.get_mut.follows.lender list).entries id (Some list) ((c.get_mut.follows.holds list).3 some).0
-      ∙ w.remove.ensures ∙ ap (filter (λ other. not (eq_by_cmp g.T.Ord.cmp c.args.value.now other))) values)
+      ∙ w.remove.ensures.values ∙ ap (filter (λ other. not (eq_by_cmp g.T.Ord.cmp c.args.value.now other))) values)
       )
   | in_default w ↦ (
       let id = c.args.id.now in

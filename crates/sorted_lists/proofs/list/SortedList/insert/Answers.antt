@@ -32,5 +32,5 @@ invariant_of-self g c =
     let none = ap (λ list. list_any (eq_by_cmp g.T.Ord.cmp c.args.value) list.values) c.self.view_is ∙ c.requires.absent in
     rw (in_place g c) (sorted_insert g.T.Ord.cmp g.met.T.Ord.total c.args.value c.self.inside.values.items none c.self.invariant)
 
-pub returns : goal.returns
-returns g c = in_place g c ∙ ap (λ list. insert_by g.T.Ord.cmp c.args.value list.values) c.self.view_is
+pub returns-clause-values : goal.returns-clause-values
+returns-clause-values g c = in_place g c ∙ ap (λ list. insert_by g.T.Ord.cmp c.args.value list.values) c.self.view_is

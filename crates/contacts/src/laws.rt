@@ -1,0 +1,28 @@
+//! What is kept gives the names and the page of contacts of the mailbox. Its function does nothing: its clauses speak of
+//! all cards in mail order.
+ghost use Rattle.std.specs.Prelude.{◌≡◌, List, not, ◌&&◌, nat_lt, map};
+ghost use Rattle.std.specs.Cmp.Lexicographic.{slice_cmp};
+ghost use Rattle.std.specs.List.{AllByRecursion};
+ghost use Rattle.std.specs.List.Sorted.{IsStrictlySortedBy};
+ghost use Rattle.std.specs.Ordering.{nat_cmp};
+ghost use Rattle.std.specs.Str.{bytes_eq};
+ghost use Rattle.card_type.specs.Effects.{is_among};
+ghost use Rattle.mailbox_model.specs.declared.contact.ContactRow.{ContactRow};
+ghost use Rattle.mailbox_model.specs.Contacts.{given_name, contacts_by};
+ghost use Rattle.mailbox_model.specs.Lists.{Bytes};
+ghost use Rattle.mailbox_model.specs.Present.{Placed};
+ghost use Rattle.contacts.specs.Kept.{Kept, StandsFor, mentions_at, names_at, last_name, shown_name};
+
+/// What is kept of cards in mail order gives the contacts of those cards.
+///
+/// - `name`: the last name of an address is the last nonempty one under which it wrote.
+/// - `page`: rows that keep the clauses of `Contacts::page` are the contacts of the rule.
+pub fn contacts_follow_from_cards()
+    ensures name { (kept : Kept) (cards : List Placed) (addr : Bytes) → StandsFor kept cards
+        → last_name (names_at kept.names addr) ≡ given_name (map (λ p. p.card) cards) addr }
+    ensures page { (kept : Kept) (cards : List Placed) (me : Bytes) (rows : List ContactRow) → StandsFor kept cards
+        → IsStrictlySortedBy (slice_cmp nat_cmp) (map (λ row. row.addr) rows)
+        → ((addr : Bytes) → is_among (map (λ row. row.addr) rows) addr ≡ (nat_lt 0 (mentions_at kept.mentions addr) && not (bytes_eq me addr)))
+        → AllByRecursion (λ row. row.name ≡ shown_name kept row.addr) rows
+        → rows ≡ contacts_by me (map (λ p. p.card) cards) }
+{}

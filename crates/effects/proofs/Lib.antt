@@ -1,0 +1,4 @@
+-- Lemmas.
+pub mod ById
+pub mod Puts
+pub mod Standing

@@ -1,0 +1,8 @@
+use Rattle.std.proofs.Common.{◌≡◌, ℕ, List, take}
+use Rattle.effects.specs.Named.{named, put_once}
+use Rattle.effects.proofs.Puts.{done}
+use Rattle.effects.proofs.effects.Effects.add.Given as goal
+
+-- it is done under the ids so far
+abbrev pub invariant-loop-id : goal.invariant-loop-id
+invariant-loop-id l = (id : List ℕ) → named l.self id ≡ done (put_once l.spot) (take l.id-index l.id-items) id (named l.fn.self id)
