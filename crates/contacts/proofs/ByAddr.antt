@@ -10,6 +10,7 @@ use Rattle.std.specs.Str.{bytes_eq}
 use Rattle.std.proofs.lemmas.Cmp.{nat_list_eq_equiv}
 use Rattle.std.proofs.lemmas.List.Sums.{sum_by-cons, sum_by-append, sum_by_more}
 use Rattle.std.proofs.lemmas.Map.Text.{is_eq-slice_cmp}
+use Rattle.card_type.specs.Records.{capped}
 use Rattle.card_type.specs.declared.card.Card.{Card}
 use Rattle.card_type.specs.declared.spot.Spot.{Spot}
 use Rattle.mailbox_model.specs.Lists.{Bytes}
@@ -54,14 +55,24 @@ module _ {V : Type 0} (es fs : List (Bytes × V)) (addr : Bytes) (value : Option
 
 -- ---- one mention more or less
 
+capped_once : (n : ℕ) → capped (capped n) ≡ capped n
+capped_once n = grind (arith)
+
+no_more : (n : ℕ) → n ≡ n + 0
+no_more n = omega (arith)
+
+-- some more, and then some
+pub more_still : (a b c m n : ℕ) → capped b ≡ capped (a + m) → capped c ≡ capped (b + n) → capped c ≡ capped (a + (m + n))
+more_still a b c m n first then_some = grind (arith, first, then_some)
+
 module _ (old new : List (Bytes × ℕ)) (addr : Bytes)
     (others : (q : Bytes) → bytes_eq addr q ≡ false → mentions_at new q ≡ mentions_at old q) where
-  pub one_more : mentions_at new addr ≡ mentions_at old addr + 1
-      → (q : Bytes) → mentions_at new q ≡ mentions_at old q + cond (bytes_eq q addr) 1 0
+  pub one_more : mentions_at new addr ≡ capped (mentions_at old addr + 1)
+      → (q : Bytes) → capped (mentions_at new q) ≡ capped (mentions_at old q + cond (bytes_eq q addr) 1 0)
   one_more at q =
-      elim (bytes_eq addr q) as (λ b. bytes_eq addr q ≡ b → mentions_at new q ≡ mentions_at old q + cond (bytes_eq q addr) 1 0) [
-        | true ↦ λ e. let equal = (bytes_decides addr q).0 e in rw (← equal, (bytes_decides addr addr).1 refl) at
-        | false ↦ λ e. rw (nat_list_eq_equiv.symm q addr, e) (let k = others q e in omega (arith, k))
+      elim (bytes_eq addr q) as (λ b. bytes_eq addr q ≡ b → capped (mentions_at new q) ≡ capped (mentions_at old q + cond (bytes_eq q addr) 1 0)) [
+        | true ↦ λ e. let equal = (bytes_decides addr q).0 e in rw (← equal, (bytes_decides addr addr).1 refl) (ap capped at ∙ capped_once (mentions_at old addr + 1))
+        | false ↦ λ e. rw (nat_list_eq_equiv.symm q addr, e) (let k = others q e in ap capped k ∙ ap capped (no_more (mentions_at old q)))
       ] refl
 
   pub one_less : mentions_at new addr ≡ mentions_at old addr - 1

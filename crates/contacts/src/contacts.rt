@@ -7,6 +7,7 @@ ghost use Rattle.std.specs.Option.{option_copied};
 ghost use Rattle.std.specs.Ordering.{nat_cmp};
 ghost use Rattle.std.specs.Str.{bytes_eq};
 ghost use Rattle.card_type.specs.Effects.{is_among};
+ghost use Rattle.card_type.specs.Records.{capped};
 ghost use Rattle.contacts.specs.Kept.{mentions_at, names_at, names_with, names_without, last_name, shown_name, times_in};
 
 use crate::mentions::Mentions;
@@ -46,14 +47,14 @@ impl Contacts {
         }
     }
 
-    /// Adds a card at a spot where none is. Takes memory; `Err` only when it runs out, or where an address is mentioned
-    /// 2^64 - 1 times, and after it the contacts may only be dropped. Takes time that grows with the number of addresses of
-    /// the card, and with the logarithm of what is kept.
+    /// Adds a card at a spot where none is. Takes memory; `Err` only when it runs out, and after it the contacts may only be
+    /// dropped. Takes time that grows with the number of addresses of the card, and with the logarithm of what is kept.
     ///
-    /// - `mentions`: each address is mentioned so often more as it is among From, To and Cc.
+    /// - `mentions`: each address is mentioned so often more as it is among From, To and Cc. A count goes up to 2^64 - 1 and
+    ///   stays there.
     /// - `names`: the name of From, where it is not empty, stands in its place in mail order.
     pub fn add(&mut self, spot: &Spot, card: &Card) -> Result<(), Memory>
-        ensures mentions { OnOk result ((addr : List ℕ) → mentions_at self.new.mentions addr ≡ mentions_at self.old.mentions addr + times_in card.now addr) }
+        ensures mentions { OnOk result ((addr : List ℕ) → capped (mentions_at self.new.mentions addr) ≡ capped (mentions_at self.old.mentions addr + times_in card.now addr)) }
         ensures names { OnOk result ((addr : List ℕ) → names_at self.new.names addr ≡ names_with spot.now card.now addr (names_at self.old.names addr)) }
     {
         self.mentions.add(card)?;

@@ -6,6 +6,7 @@ ghost use Rattle.std.specs.List.Sorted.{IsStrictlySortedBy};
 ghost use Rattle.std.specs.Ordering.{nat_cmp};
 ghost use Rattle.std.specs.Str.{bytes_eq};
 ghost use Rattle.card_type.specs.Effects.{is_among};
+ghost use Rattle.card_type.specs.Records.{capped};
 ghost use Rattle.contacts.specs.Kept.{mentions_at, times_in};
 
 use card_type::Card;
@@ -26,13 +27,6 @@ impl Model for Mentions {
     ghost Value = { List (List ℕ × ℕ) };
 
     ghost view = { λ mentions. mentions.counts.entries };
-}
-
-/// The next number, where it is one of 64 bits.
-fn one_more(count: u64) -> Result<u64, Memory>
-    ensures { IfOk result (λ more. more ≡ count + 1) }
-{
-    count.checked_add(1).ok_or(Memory)
 }
 
 /// Whether an address is mentioned, and is not the own one.
@@ -76,23 +70,22 @@ impl Mentions {
         Ok(addrs)
     }
 
-    /// Counts one mention more of an address. Takes memory; `Err` only when it runs out, or where the address is mentioned
-    /// 2^64 - 1 times.
+    /// Counts one mention more of an address, up to 2^64 - 1. Takes memory; `Err` only when it runs out.
     fn add_one(&mut self, addr: &Addr) -> Result<(), Memory>
-        ensures at { OnOk result (mentions_at self.new addr.now ≡ mentions_at self.old addr.now + 1) }
+        ensures at { OnOk result (mentions_at self.new addr.now ≡ capped (mentions_at self.old addr.now + 1)) }
         ensures others { OnOk result ((other : List ℕ) → bytes_eq addr.now other ≡ false → mentions_at self.new other ≡ mentions_at self.old other) }
     {
         if let Some(count) = self.counts.get_mut(addr) {
-            *count = one_more(*count)?;
+            *count = count.saturating_add(1);
             return Ok(());
         }
         self.counts.insert(addr.copy()?, 1)?;
         Ok(())
     }
 
-    /// Counts a mention more of each of these.
+    /// Counts a mention more of each of these, up to 2^64 - 1.
     fn add_each(&mut self, addrs: &[Addr]) -> Result<(), Memory>
-        ensures { OnOk result ((other : List ℕ) → mentions_at self.new other ≡ mentions_at self.old other + count_by (bytes_eq other) addrs.now) }
+        ensures { OnOk result ((other : List ℕ) → capped (mentions_at self.new other) ≡ capped (mentions_at self.old other + count_by (bytes_eq other) addrs.now)) }
     {
         for addr in addrs {
             self.add_one(addr)?;
@@ -100,10 +93,9 @@ impl Mentions {
         Ok(())
     }
 
-    /// Counts the mentions of a card. Takes memory; `Err` only when it runs out, or where an address is mentioned 2^64 - 1
-    /// times.
+    /// Counts the mentions of a card, those of each address up to 2^64 - 1. Takes memory; `Err` only when it runs out.
     pub(crate) fn add(&mut self, card: &Card) -> Result<(), Memory>
-        ensures { OnOk result ((other : List ℕ) → mentions_at self.new other ≡ mentions_at self.old other + times_in card.now other) }
+        ensures { OnOk result ((other : List ℕ) → capped (mentions_at self.new other) ≡ capped (mentions_at self.old other + times_in card.now other)) }
     {
         self.add_one(&card.from)?;
         self.add_each(card.to.as_slice())?;
