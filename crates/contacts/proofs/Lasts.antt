@@ -30,7 +30,7 @@ no_names (e ∷ es) h = absurd (some_last e (last_of es) (none_mapped (last_of (
     none_mapped None h = refl
     none_mapped (Some g) h = cc
 
--- behind a reference there is none where there is no reference
+-- a reference is to none where there is no reference
 pub none_copied : {X : Type 0} (o : Option (Bor X)) → is_some o ≡ false → option_copied o ≡ None
 none_copied None h = refl
 none_copied (Some x) h = cc

@@ -106,10 +106,10 @@ module _ (f g : Chats) (x : Cites) (others : (id : Bytes) → bytes_eq id x.spot
     abbrev pub Handed : Cites → Type 0
     Handed t = next t.spot ≡ false → (pending t.spot ≡ false) × ((is_among t.candidates x.spot.id ≡ false) ⊎ (g x.spot.id ≡ f x.spot.id))
 
-    behind : (earlier later : List Cites) → AllByRecursion (λ t. bytes_eq t.spot.id x.spot.id ≡ false) later → AllByRecursion Handed later → KeepRuleBut f pending earlier later → KeepRuleBut g next earlier later
-    behind earlier [] d h s = tt
-    behind earlier (t ∷ later) d h s =
-        (λ n. let k = h.0 n in others t.spot.id d.0 ∙ s.0 k.0 ∙ ap (λ o. Some (chat_from t o)) (parent_after earlier t k.1), behind (earlier ++ t ∷ []) later d.1 h.1 s.1)
+    further : (earlier later : List Cites) → AllByRecursion (λ t. bytes_eq t.spot.id x.spot.id ≡ false) later → AllByRecursion Handed later → KeepRuleBut f pending earlier later → KeepRuleBut g next earlier later
+    further earlier [] d h s = tt
+    further earlier (t ∷ later) d h s =
+        (λ n. let k = h.0 n in others t.spot.id d.0 ∙ s.0 k.0 ∙ ap (λ o. Some (chat_from t o)) (parent_after earlier t k.1), further (earlier ++ t ∷ []) later d.1 h.1 s.1)
 
     -- x was looked at: it gets its chat, and those later ones that name it go on the list where it moved
     pub looked_at : (earlier before later : List Cites) → is_id_among earlier x.spot.id ≡ false → AllByRecursion (λ t. bytes_eq t.spot.id x.spot.id ≡ false) before → AllByRecursion (λ t. bytes_eq t.spot.id x.spot.id ≡ false) later
@@ -118,7 +118,7 @@ module _ (f g : Chats) (x : Cites) (others : (id : Bytes) → bytes_eq id x.spot
         → KeepRuleBut f pending earlier (before ++ x ∷ later) → KeepRuleBut g next earlier (before ++ x ∷ later)
     looked_at earlier [] later n db dl e hb hl s =
         let here : g x.spot.id ≡ Some (chat_from x (option_and_then f (parent_among earlier x))) = subst (λ es. g x.spot.id ≡ Some (chat_from x (option_and_then f (parent_among es x)))) (append-nil earlier) e in
-        (λ _. here ∙ ap (λ o. Some (chat_from x o)) (parent_before earlier x n), behind (earlier ++ x ∷ []) later dl hl s.1)
+        (λ _. here ∙ ap (λ o. Some (chat_from x o)) (parent_before earlier x n), further (earlier ++ x ∷ []) later dl hl s.1)
     looked_at earlier (t ∷ before) later n db dl e hb hl s = (
       λ k. others t.spot.id db.0 ∙ s.0 (hb.0 k) ∙ ap (λ o. Some (chat_from t o)) (parent_before earlier t n),
       looked_at (earlier ++ t ∷ []) before later (not_among earlier t n db.0) db.1 dl (subst (λ es. g x.spot.id ≡ Some (chat_from x (option_and_then f (parent_among es x)))) (sym (append_assoc earlier (t ∷ []) before)) e) hb.1 hl s.1,
@@ -145,7 +145,7 @@ same_moves old f g (t ∷ ts) a = λ i. cons_option (moved t.spot.id (old t.spot
 abbrev pub Apart : Cites → List Cites → Type 0
 Apart x ts = AllByRecursion (λ t. bytes_eq t.spot.id x.spot.id ≡ false) ts
 
--- x and later cards had their old chats: the move of x comes behind the others
+-- x and later cards had their old chats: the move of x comes after the others
 pub one_move : (old f g : Chats) (before : List Cites) (x : Cites) (later : List Cites)
     → ((id : Bytes) → bytes_eq id x.spot.id ≡ false → g id ≡ f id)
     → Apart x before → Apart x later → AllByRecursion (λ t. f t.spot.id ≡ old t.spot.id) (x ∷ later)

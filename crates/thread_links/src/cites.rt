@@ -10,7 +10,7 @@ use lists::{Items, each_once};
 use mailbox_model::Cites;
 use std::alloc::Global;
 
-/// Puts copies of addresses behind these.
+/// Appends copies of addresses.
 fn push_copies(people: &mut Vec<Addr>, addrs: &[Addr]) -> Result<(), Memory>
     ensures { OnOk result (people.new.items ≡ people.old.items ++ addrs.now) }
 {
