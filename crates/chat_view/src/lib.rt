@@ -2,8 +2,10 @@
 #![tactic(auto)]
 
 mod list;
+mod state;
 mod text;
 
-pub use list::{ChatState, chat_row};
+pub use list::chat_row;
 pub use mailbox_model::{ChatPage, ListRow, Mark, Row, UpdateRow};
+pub use state::ChatState;
 pub use text::{body_of, page_name};
