@@ -1,2 +1,4 @@
 -- Lemmas.
 pub mod States
+pub mod Numbered
+pub mod Makers
