@@ -2,3 +2,4 @@
 pub mod States
 pub mod Numbered
 pub mod Makers
+pub mod Parts
