@@ -14,7 +14,7 @@ use lists::Items;
 use mailbox_model::{Mark, Row, UpdateRow};
 use std::alloc::Global;
 
-/// The row of a card as it is with what was added so far, and whether it is shown at all.
+/// The row of a card with what was added so far, and what says whether it is shown at all.
 #[derive(Debug, Drop)]
 pub struct RowMaker {
     row: Row,
@@ -106,8 +106,9 @@ fn add_update(
 /// Adds the updates that a card brings, in their order.
 fn add_updates(updates: &mut Items<UpdateRow>, spot: &Spot, e: &Card) -> Result<(), Memory>
     requires { length updates.old + length e.now.updates < 4294967296 }
-    ensures { OnOk result ((before : List Placed) → updates.old ≡ updates_by before
+    ensures rows { OnOk result ((before : List Placed) → updates.old ≡ updates_by before
         → updates.new ≡ updates_by (before ++ placed spot.now e.now ∷ [])) }
+    ensures len { OnOk result (length updates.new ≡ length updates.old + length e.now.updates) }
 {
     let mut part = 0;
     for update in e.updates.as_slice() {
@@ -120,6 +121,9 @@ fn add_updates(updates: &mut Items<UpdateRow>, spot: &Spot, e: &Card) -> Result<
 impl RowMaker {
     /// The row of a card on which nothing acts yet, where `seen` is when its mail was seen and `me` the own address. Takes
     /// memory; `Err` only when it runs out.
+    ///
+    /// - `stands`: it stands for the mail and for nothing that acts on it.
+    /// - `updates`: no update is kept yet.
     pub fn new(
         alloc: Global,
         spot: &Spot,
@@ -129,7 +133,8 @@ impl RowMaker {
     ) -> Result<Self, Memory>
         requires date { spot.now.date ≤ last_moment }
         requires seen { IfSome seen (λ moment. moment ≤ last_moment) }
-        ensures { IfOk result (MakesRow me.now (mail spot.now card.now seen) []) }
+        ensures stands { IfOk result (MakesRow me.now (mail spot.now card.now seen) []) }
+        ensures updates { IfOk result (λ maker. maker.row.updates ≡ []) }
     {
         let row = Row {
             uid: spot.uid,
@@ -156,10 +161,14 @@ impl RowMaker {
 
     /// Adds what the next card in mail order does to that of the row. Takes memory; `Err` only when it runs out, and then
     /// the maker may only be dropped.
+    ///
+    /// - `stands`: a maker that stands for a mail and for what acts on it stands for this act too.
+    /// - `updates`: no more updates are kept than before and in this card.
     pub fn add(&mut self, effect: Effect, spot: &Spot, e: &Card) -> Result<(), Memory>
         requires { length self.old.row.updates + length e.now.updates < 4294967296 }
-        ensures { OnOk result ((me : Bytes) (t : Mail) (acts : List Act) → MakesRow me t acts self.old
+        ensures stands { OnOk result ((me : Bytes) (t : Mail) (acts : List Act) → MakesRow me t acts self.old
             → MakesRow me t (acts ++ act effect spot.now e.now ∷ []) self.new) }
+        ensures updates { OnOk result (length self.new.row.updates ≤ length self.old.row.updates + length e.now.updates) }
     {
         match effect {
             Effect::Edit => edit(&mut self.row, e),
@@ -172,8 +181,8 @@ impl RowMaker {
         }
     }
 
-    /// The row at a moment, in seconds since 1970-01-01 00:00:00 UTC: `None` exactly where it is withdrawn or expired. Takes
-    /// no memory.
+    /// The row at a moment, in seconds since 1970-01-01 00:00:00 UTC: `None` exactly where it is withdrawn or expired. It is
+    /// that of the mail and the acts for which the maker stands. Takes no memory.
     pub fn end(self, now: u64) -> Option<Row>
         ensures { (me : Bytes) (t : Mail) (acts : List Act) → MakesRow me t acts self → result ≡ row_by me now t acts }
     {

@@ -37,7 +37,8 @@ fn renew_last(last: &mut Option<Spot>, spot: &Spot, mark: Option<Mark>) -> Resul
     Ok(())
 }
 
-/// How many cards are fresh with one more.
+/// How many cards are fresh with one more. The number never comes near what a `u32` holds, since no more are fresh than
+/// there are.
 fn fresh_with(fresh: u32, mark: Option<Mark>) -> u32
     ensures { fresh < 4294967295 → result ≡ (if option_map_or is_new mark false then suc fresh else fresh) }
 {
@@ -51,6 +52,9 @@ fn fresh_with(fresh: u32, mark: Option<Mark>) -> u32
 impl ChatState {
     /// The state of a chat that has no card yet, where `me` is the own address. Takes memory; `Err` only when it runs
     /// out.
+    ///
+    /// - `key`: it has this key.
+    /// - `stands`: it stands for no card.
     pub fn begin(alloc: Global, key: ChatKey, me: &Addr) -> Result<Self, Memory>
         ensures key { IfOk result (λ state. state.key ≡ key) }
         ensures stands { IfOk result (StandsFor me.now []) }
@@ -68,6 +72,9 @@ impl ChatState {
     /// Adds the next card of the chat in mail order, with the mark of its row, and `None` where it is not shown; the own
     /// address is that with which the state was begun. Takes memory; `Err` only when it runs out, and then the state may
     /// only be dropped.
+    ///
+    /// - `key`: the key stays.
+    /// - `stands`: a state that stands for cards stands for them and this one.
     pub fn add(
         &mut self,
         alloc: Global,

@@ -1,8 +1,8 @@
 use Rattle.std.proofs.Common.{refl, false}
 use Rattle.chat_view.proofs.maker.RowMaker.new.Goals as goal
 
-pub returns : goal.returns
-returns c =
+pub returns-clause-stands : goal.returns-clause-stands
+returns-clause-stands c =
     let spot = c.args.spot.now in
     let card = c.args.card.now in
     record {
