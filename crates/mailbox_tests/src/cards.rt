@@ -57,7 +57,7 @@ const IN_ORDER: [&str; 8] = [
     "thread:b",
 ];
 
-fn id(alloc: Global, bytes: &str) -> Result<Id, Fail> {
+pub(crate) fn id(alloc: Global, bytes: &str) -> Result<Id, Fail> {
     Ok(Id::read(alloc, bytes.as_bytes())?.ok_or("no id")?)
 }
 

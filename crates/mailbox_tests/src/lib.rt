@@ -13,3 +13,5 @@ mod deadlines;
 mod links;
 #[cfg(test)]
 mod rosters;
+#[cfg(test)]
+mod rows;
