@@ -19,3 +19,5 @@ mod made;
 mod people;
 #[cfg(test)]
 mod rosters;
+#[cfg(test)]
+mod rows;

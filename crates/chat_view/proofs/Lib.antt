@@ -1,0 +1,5 @@
+-- Lemmas.
+pub mod States
+pub mod Numbered
+pub mod Makers
+pub mod Parts

@@ -1,0 +1,61 @@
+-- The state of a chat with one more card.
+use Rattle.std.proofs.Common.{◌≡◌, refl, sym, ap, ◌∙◌, ℕ, suc, ◌+◌, ◌<◌, Bool, true, false, cond, Option, Some, is_some, List, [], ◌∷◌, ◌++◌, length, map, arith, append-nil}
+use Rattle.std.specs.Prelude.{if◌then◌else◌, filter}
+use Rattle.std.specs.Option.{option_map, option_map_or}
+use Rattle.std.proofs.lemmas.List.{length-map, map-append}
+use Rattle.std.proofs.lemmas.List.Elements.{filter-append}
+use Rattle.std.proofs.lemmas.List.Sums.{count_by-le-length, sum_by-append}
+use Rattle.card_type.specs.declared.key.ChatKey.{ChatKey}
+use Rattle.card_type.specs.declared.spot.Spot.{Spot}
+use Rattle.mailbox_model.specs.declared.roster.Roster.{Roster}
+use Rattle.mailbox_model.specs.Lists.{Bytes, last_of}
+use Rattle.mailbox_model.specs.Rosters.{roster_of}
+use Rattle.mailbox_model.specs.Rows.{is_new}
+use Rattle.mailbox_model.specs.States.{Shown, last_spot, fresh_among}
+use Rattle.chat_view.specs.declared.state.ChatState.{ChatState}
+use Rattle.chat_view.specs.Standing.{StandsFor, state_of}
+
+pub last_of_more : {X : Type 0} (xs : List X) (x : X) → last_of (xs ++ x ∷ []) ≡ Some x
+last_of_more [] x = refl
+last_of_more (y ∷ ys) x = rw (last_of_more ys x) refl
+
+abbrev is_shown : Shown → Bool
+is_shown c = is_some c.mark
+
+abbrev is_fresh : Shown → Bool
+is_fresh c = option_map_or is_new c.mark false
+
+last_more : (cards : List Shown) (c : Shown) → last_spot (cards ++ c ∷ []) ≡ (if is_some c.mark then Some c.spot else last_spot cards)
+last_more cards c = ap (λ kept. option_map (λ d. d.spot) (last_of kept)) (filter-append is_shown cards (c ∷ [])) ∙ by (is_some c.mark)
+  where
+    by : (b : Bool) → option_map (λ d. d.spot) (last_of (filter is_shown cards ++ cond b (c ∷ []) [])) ≡ (if b then Some c.spot else last_spot cards)
+    by true = ap (λ last. option_map (λ d. d.spot) last) (last_of_more (filter is_shown cards) c)
+    by false = rw (append-nil (filter is_shown cards)) refl
+
+fresh_more : (cards : List Shown) (c : Shown) → fresh_among (cards ++ c ∷ []) ≡ (if is_fresh c then suc (fresh_among cards) else fresh_among cards)
+fresh_more cards c = sum_by-append (λ d. cond (is_fresh d) 1 0) cards (c ∷ []) ∙ by (is_fresh c)
+  where
+    by : (b : Bool) → fresh_among cards + (0 + cond b 1 0) ≡ (if b then suc (fresh_among cards) else fresh_among cards)
+    by true = omega arith
+    by false = omega arith
+
+-- no more are fresh than there are
+pub few_fresh : (me : Bytes) (cards : List Shown) (s : ChatState) → StandsFor me cards s → length s.spots < 65536 → s.fresh < 4294967295
+few_fresh me cards s is few =
+    let known = ap (λ t. t.fresh) is in
+    let spots = ap (λ t. length t.spots) is in
+    omega (arith, few, known, spots, length-map cards (λ c. c.spot), count_by-le-length is_fresh cards)
+
+module _ (me : Bytes) (key : ChatKey) (cards : List Shown) (c : Shown) where
+  pub state_more : (spots : List Spot) (roster : Roster) (last : Option Spot) (fresh : ℕ)
+      → spots ≡ map (λ d. d.spot) cards ++ c.spot ∷ []
+      → roster ≡ roster_of me key (map (λ d. d.card) cards ++ c.card ∷ [])
+      → last ≡ (if is_some c.mark then Some c.spot else last_spot cards)
+      → fresh ≡ (if is_fresh c then suc (fresh_among cards) else fresh_among cards)
+      → record { key = key; spots = spots; roster = roster; last = last; fresh = fresh } ≡ state_of me key (cards ++ c ∷ [])
+  state_more spots roster last fresh spots_are roster_is last_is fresh_is =
+      let spots_all : spots ≡ map (λ d. d.spot) (cards ++ c ∷ []) = spots_are ∙ sym (map-append (λ d. d.spot) cards (c ∷ [])) in
+      let roster_all : roster ≡ roster_of me key (map (λ d. d.card) (cards ++ c ∷ [])) = roster_is ∙ ap (roster_of me key) (sym (map-append (λ d. d.card) cards (c ∷ []))) in
+      let last_all : last ≡ last_spot (cards ++ c ∷ []) = last_is ∙ sym (last_more cards c) in
+      let fresh_all : fresh ≡ fresh_among (cards ++ c ∷ []) = fresh_is ∙ sym (fresh_more cards c) in
+      λ i. record { key = key; spots = spots_all i; roster = roster_all i; last = last_all i; fresh = fresh_all i }

@@ -1,0 +1,4 @@
+-- What public clauses cite.
+pub mod Standing
+pub mod Makers
+pub mod Parts

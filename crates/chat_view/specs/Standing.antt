@@ -1,0 +1,29 @@
+-- For which cards the state of a chat stands.
+use Rattle.std.specs.Prelude.{◌≡◌, List, map, Option}
+use Rattle.card_type.specs.declared.card.Card.{Card}
+use Rattle.card_type.specs.declared.spot.Spot.{Spot}
+use Rattle.mailbox_model.specs.declared.row.Mark.{Mark}
+use Rattle.card_type.specs.declared.key.ChatKey.{ChatKey}
+use Rattle.mailbox_model.specs.Lists.{Bytes}
+use Rattle.mailbox_model.specs.Rosters.{roster_of}
+use Rattle.mailbox_model.specs.States.{Shown, last_spot, fresh_among}
+use Rattle.chat_view.specs.declared.state.ChatState.{ChatState}
+
+-- the state of a chat with these cards
+abbrev pub state_of : Bytes → ChatKey → List Shown → ChatState
+state_of me key cards =
+    record {
+      key = key;
+      spots = map (λ c. c.spot) cards;
+      roster = roster_of me key (map (λ c. c.card) cards);
+      last = last_spot cards;
+      fresh = fresh_among cards;
+    }
+
+-- a state stands for cards where it is the state of them, under its own key
+abbrev pub StandsFor : Bytes → List Shown → ChatState → Type 0
+StandsFor me cards s = s ≡ state_of me s.key cards
+
+-- a card at its spot, with the mark of its row where it is shown
+abbrev pub shown : Spot → Card → Option Mark → Shown
+shown spot card mark = record { spot = spot; card = card; mark = mark }
