@@ -16,6 +16,8 @@ mod links;
 #[cfg(test)]
 mod made;
 #[cfg(test)]
+mod names;
+#[cfg(test)]
 mod people;
 #[cfg(test)]
 mod rosters;

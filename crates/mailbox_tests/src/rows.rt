@@ -177,6 +177,14 @@ fn the_first_receipt_counts(rt: HostRuntime) -> Result<(), Fail> {
 }
 
 #[test]
+fn a_withdrawn_mail_has_no_row(rt: HostRuntime) -> Result<(), Fail> {
+    let mut maker = begun(rt.alloc(), &plain(rt.alloc(), BOB, "m1@x.org")?)?;
+    act(rt.alloc(), &mut maker, &(Effect::Delete, "", TEN + 60, 3))?;
+    assert!(rt; maker.end(TEN).is_none());
+    Ok(())
+}
+
+#[test]
 fn serials_are_in_mail_order(rt: HostRuntime) -> Result<(), Fail> {
     let row = acted(rt.alloc(), BOB, &UPDATES)?;
     assert_eq!(rt; row.updates.len(), SERIALS.len());
@@ -215,7 +223,7 @@ fn rows_expire(rt: HostRuntime) -> Result<(), Fail> {
 }
 
 /// The row of a mail of Bob's with this subject and this text.
-fn row(alloc: Global, chat: bool, subject: &str, said: &str) -> Result<Row, Fail> {
+pub(crate) fn row(alloc: Global, chat: bool, subject: &str, said: &str) -> Result<Row, Fail> {
     let subject = text(alloc, subject)?;
     let mut card = card(alloc, said)?;
     card.chat = chat;
@@ -252,7 +260,8 @@ fn add(
     Ok(())
 }
 
-fn state_of(alloc: Global, marks: &[Option<Mark>]) -> Result<ChatState, Fail> {
+/// The state of the chat with Bob after mails with these marks.
+pub(crate) fn state_of(alloc: Global, marks: &[Option<Mark>]) -> Result<ChatState, Fail> {
     let me = addr(alloc, ME)?;
     let mut state = ChatState::begin(alloc, key(alloc, "single:bob@x.org")?, &me)?;
     let mut uid = 0;
