@@ -3,6 +3,7 @@ pub mod DistinctLaws
 pub mod Elements
 pub mod Inserts
 pub mod Maps
+pub mod OneMore
 pub mod Rising
 mod Rows
 pub mod Sorted

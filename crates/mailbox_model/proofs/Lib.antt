@@ -1,6 +1,7 @@
 -- Laws of the definitions, and rows that compute.
 pub mod Elements
 pub mod MailLaws
+pub mod OneMail
 pub mod TurnLaws
 pub mod ChatLaws
 pub mod RuleLaws

@@ -3,13 +3,10 @@ use Rattle.std.proofs.Common.{◌≡◌, ◌↔◌, refl, sym, ap, ◌∙◌, su
 use Rattle.std.specs.Prelude.{if◌then◌else◌, filter, IfSome, Result, Ok, Err}
 use Rattle.std.specs.List.{AllByRecursion}
 use Rattle.std.specs.Option.{option_or}
-use Rattle.std.specs.declared.cmp.Ordering.{Ordering}
-use Rattle.std.specs.Ordering.{is_lt}
 use Rattle.std.proofs.lemmas.Bool.{eq-eqb, ne_eqb}
 use Rattle.std.proofs.lemmas.List.Sorted.{length_permutation, sum_by-IsPermutation}
 use Rattle.std.proofs.lemmas.List.Sums.{length-filter}
 use Rattle.std.proofs.lemmas.List.Elements.{All-from_recursion, All-contains}
-use Rattle.lists.specs.Sorted.{insert_by}
 use Rattle.card_type.specs.declared.card.Card.{Card}
 use Rattle.mailbox_model.specs.declared.change.Fault.{Fault}
 use Rattle.mailbox_model.specs.declared.change.Change.{Change}

@@ -3,6 +3,7 @@
 ghost use Rattle.std.specs.Prelude.{◌≡◌, ◌↔◌, ◌⊎◌, ◌<◌, ◌≤◌, ℕ, pos, false, true, Some, None, List, [], ◌∷◌, ◌++◌, length, map, find, filter_map, option_and_then, option_map, is_some, if◌then◌else◌, IfSome, max};
 ghost use Rattle.std.specs.List.{AllByRecursion, list_any, IsDistinct, range_with_len};
 ghost use Rattle.std.specs.List.Sorted.{IsStrictlySortedBy, IsPermutation};
+ghost use Rattle.std.specs.Ordering.{eq_by_cmp};
 ghost use Rattle.std.specs.Result.{result_ok};
 ghost use Rattle.std.specs.Str.{bytes_eq};
 ghost use Rattle.jiff_core.specs.declared.civil.date.Date.{Date};
@@ -17,7 +18,7 @@ ghost use Rattle.mailbox_model.specs.declared.turn.Turn.TheVariants.{Nothing};
 ghost use Rattle.mailbox_model.specs.Lists.{Bytes};
 ghost use Rattle.mailbox_model.specs.Mailbox.{Mailbox, Entry, entry_of, item_of, empty_mailbox, card_at, after, after_all, full, max_entries, max_total_weight, IsMailbox, IsValidChange, AreAllowed};
 ghost use Rattle.mailbox_model.specs.Present.{Placed, Mail, mail_of, mail_at, mail_cmp, mails, has_id, same_id, same_uid, present, contents};
-ghost use Rattle.mailbox_model.specs.Turns.{turn, IsTurn};
+ghost use Rattle.mailbox_model.specs.Turns.{turn, with_mail, IsTurn};
 ghost use Rattle.mailbox_model.specs.Chats.{cites, chat, chat_among, chat_from, chat_mails, is_id_among, parent_among, DistinctIds, KeepRule};
 ghost use Rattle.mailbox_model.specs.Rows.{acting, acts_on, naming, expiry, is_expired, row, same_part, shown_by};
 ghost use Rattle.mailbox_model.specs.Rosters.{roster};
@@ -74,6 +75,28 @@ pub fn uids_name_one_mail()
     ensures once { (m : Mailbox) → IsMailbox m → IsDistinct same_uid (present m) }
     ensures ever { (m : Mailbox) (changes : List Change) (uid : ℕ) (before after : Card) → IsMailbox m
         → card_at m uid ≡ Some before → card_at (after_all m changes) uid ≡ Some after → after ≡ before }
+{}
+
+/// A mail stands in one place among mails in mail order, into which it comes or which it leaves.
+///
+/// - `last`: put in among those that precede it, it comes last.
+/// - `order`, `once`: those up to it are in mail order, and no two of them have one id, where all are so.
+/// - `left`: the others are in mail order where all are.
+/// - `spot`: and then none of the others is at its spot.
+/// - `id`: where no two have one id, none of the others has its id.
+pub fn a_mail_comes_into_its_place()
+    ensures last { (before after : List Mail) (t : Mail) → IsStrictlySortedBy mail_cmp (before ++ t ∷ after)
+        → with_mail t before ≡ before ++ t ∷ [] }
+    ensures order { (before after : List Mail) (t : Mail) → IsStrictlySortedBy mail_cmp (before ++ t ∷ after)
+        → IsStrictlySortedBy mail_cmp (with_mail t before) }
+    ensures once { (before after : List Mail) (t : Mail) → IsStrictlySortedBy mail_cmp (before ++ t ∷ after)
+        → IsDistinct same_id (before ++ t ∷ after) → IsDistinct same_id (with_mail t before) }
+    ensures left { (t : Mail) (ts : List Mail) → IsStrictlySortedBy mail_cmp (with_mail t ts)
+        → IsStrictlySortedBy mail_cmp ts }
+    ensures spot { (t : Mail) (ts : List Mail) → IsStrictlySortedBy mail_cmp (with_mail t ts)
+        → list_any (eq_by_cmp mail_cmp t) ts ≡ false }
+    ensures id { (t : Mail) (ts : List Mail) → IsDistinct same_id (with_mail t ts)
+        → list_any (same_id t) ts ≡ false }
 {}
 
 /// The turn of a change says how it moves the present cards and the moment.

@@ -17,10 +17,11 @@ pub use change::{Change, Fault};
 pub use contact::ContactRow;
 pub use item::{Held, Item};
 pub use laws::{
-    a_day_has_one_date, a_mailbox_is_bounded, a_page_follows_from_its_chat,
-    a_row_follows_from_what_names_it, changes_keep_the_rules, changes_move_the_present,
-    chats_have_names_and_members, chats_keep_the_rule, equal_mailboxes_print_alike,
-    items_and_cards_make_entries, list_has_each_chat, present_is_in_order, uids_name_one_mail,
+    a_day_has_one_date, a_mail_comes_into_its_place, a_mailbox_is_bounded,
+    a_page_follows_from_its_chat, a_row_follows_from_what_names_it, changes_keep_the_rules,
+    changes_move_the_present, chats_have_names_and_members, chats_keep_the_rule,
+    equal_mailboxes_print_alike, items_and_cards_make_entries, list_has_each_chat,
+    present_is_in_order, uids_name_one_mail,
 };
 pub use links::{Cites, Moved};
 pub use list::{FaultRow, ListPage, ListRow};
