@@ -1,5 +1,5 @@
 -- How many contents there are, and how many updates on any of them.
-use Rattle.std.proofs.Common.{◌≡◌, refl, sym, ap, ◌∙◌, ℕ, ◌+◌, ◌≤◌, Bool, true, false, not, cond, Option, Some, None, Result, Ok, Err, List, [], ◌∷◌, ◌++◌, length, map, arith, length-append}
+use Rattle.std.proofs.Common.{◌≡◌, refl, sym, ap, ◌∙◌, ℕ, ◌+◌, ◌≤◌, Bool, not, Option, Some, None, Result, Ok, Err, List, [], ◌∷◌, ◌++◌, length, map, arith, length-append}
 use Rattle.std.specs.Prelude.{filter_map, filter, sum_by, flat_map}
 use Rattle.std.specs.List.{concat, cons_option, enumerate_from}
 use Rattle.std.proofs.lemmas.List.{length-map}
@@ -34,7 +34,7 @@ module _ {X : Type 0} (f : X → ℕ) where
       let others = filter (λ y. not (same x y)) (firsts same xs) in
       omega (arith, sum_by-cons f x xs, sum_by-cons f x others, sum_by-filter (λ y. not (same x y)) (firsts same xs), sum_by-firsts same xs)
 
-sum_by-map : {X Y : Type 0} (f : Y → ℕ) (g : X → Y) (xs : List X) → sum_by f (map g xs) ≡ sum_by (λ x. f (g x)) xs
+pub sum_by-map : {X Y : Type 0} (f : Y → ℕ) (g : X → Y) (xs : List X) → sum_by f (map g xs) ≡ sum_by (λ x. f (g x)) xs
 sum_by-map f g [] = refl
 sum_by-map f g (x ∷ xs) =
     sum_by-cons f (g x) (map g xs) ∙ ap (λ n. f (g x) + n) (sum_by-map f g xs) ∙ sym (sum_by-cons (λ x. f (g x)) x xs)
@@ -126,15 +126,22 @@ weighs_each e = by e.read
     by (Ok card) = omega (arith, updates_weigh card)
     by (Err fault) = omega arith
 
+-- of all present cards
+pub few_brought : (m : Mailbox) → IsMailbox m → sum_by (λ p. length p.card.updates) (present_cards m) ≤ max_total_weight
+few_brought m k =
+    omega (
+      arith,
+      sum_by-map (λ (p : Placed). length p.card.updates) (λ (t : Mail). t.placed) (present m),
+      sum_by-present (λ t. length t.placed.card.updates) (λ e. weight_read e.read) weighs_each m,
+      k.weight_fits,
+    )
+
 pub few_updates : (m : Mailbox) → IsMailbox m → (t : Card)
     → length (updates_by (acting_by effects.Update (acting m t))) ≤ max_total_weight
 few_updates m k t =
-    let f : Placed → ℕ = λ e. length e.card.updates in
     omega (
       arith,
       length-updates_by (acting_by effects.Update (acting m t)),
-      sum_by-acting m.me t effects.Update f (present_cards m),
-      sum_by-map f (λ (t : Mail). t.placed) (present m),
-      sum_by-present (λ t. length t.placed.card.updates) (λ e. weight_read e.read) weighs_each m,
-      k.weight_fits,
+      sum_by-acting m.me t effects.Update (λ e. length e.card.updates) (present_cards m),
+      few_brought m k,
     )

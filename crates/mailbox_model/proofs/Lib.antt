@@ -9,6 +9,7 @@ pub mod UidLaws
 pub mod StillLaws
 pub mod ActLaws
 pub mod CountLaws
+pub mod PeopleLaws
 pub mod UpdateLaws
 pub mod MemberLaws
 pub mod PresentLaws

@@ -1,7 +1,7 @@
 //! Laws of the definition of a mailbox and its pages. Each is the contract of a function that does nothing: its
 //! clauses speak of every mailbox and every change.
-ghost use Rattle.std.specs.Prelude.{◌≡◌, ◌↔◌, ◌⊎◌, ◌<◌, ◌≤◌, ℕ, pos, false, true, Some, None, List, [], ◌∷◌, ◌++◌, length, map, find, filter_map, option_and_then, option_map, is_some, if◌then◌else◌, IfSome, max};
-ghost use Rattle.std.specs.List.{AllByRecursion, list_any, IsDistinct, range_with_len};
+ghost use Rattle.std.specs.Prelude.{◌≡◌, ◌↔◌, ◌⊎◌, ◌<◌, ◌≤◌, ℕ, pos, false, true, Some, None, List, [], ◌∷◌, ◌++◌, length, map, find, filter_map, option_and_then, option_map, is_some, if◌then◌else◌, sum_by, IfSome, max};
+ghost use Rattle.std.specs.List.{AllByRecursion, count_by, list_any, IsDistinct, range_with_len};
 ghost use Rattle.std.specs.List.Sorted.{IsStrictlySortedBy, IsPermutation};
 ghost use Rattle.std.specs.Ordering.{eq_by_cmp};
 ghost use Rattle.std.specs.Result.{result_ok};
@@ -17,9 +17,9 @@ ghost use Rattle.mailbox_model.specs.declared.links.Cites.{Cites};
 ghost use Rattle.mailbox_model.specs.declared.turn.Turn.TheVariants.{Nothing};
 ghost use Rattle.mailbox_model.specs.Lists.{Bytes};
 ghost use Rattle.mailbox_model.specs.Mailbox.{Mailbox, Entry, entry_of, item_of, empty_mailbox, card_at, after, after_all, full, max_entries, max_total_weight, IsMailbox, IsValidChange, AreAllowed};
-ghost use Rattle.mailbox_model.specs.Present.{Placed, Mail, mail_of, mail_at, mail_cmp, mails, has_id, same_id, same_uid, present, contents};
+ghost use Rattle.mailbox_model.specs.Present.{Placed, Mail, mail_of, mail_at, mail_cmp, mails, has_id, same_id, same_uid, present, present_cards, contents};
 ghost use Rattle.mailbox_model.specs.Turns.{turn, with_mail, IsTurn};
-ghost use Rattle.mailbox_model.specs.Chats.{cites, chat, chat_among, chat_from, chat_mails, is_id_among, parent_among, DistinctIds, KeepRule};
+ghost use Rattle.mailbox_model.specs.Chats.{people, cites, chat, chat_among, chat_from, chat_mails, is_id_among, parent_among, DistinctIds, KeepRule};
 ghost use Rattle.mailbox_model.specs.Rows.{acting, acts_on, naming, expiry, is_expired, row, same_part, shown_by};
 ghost use Rattle.mailbox_model.specs.Rosters.{roster};
 ghost use Rattle.mailbox_model.specs.Names.{name};
@@ -114,10 +114,16 @@ pub fn changes_move_the_present()
 ///
 /// - `contents`: no more than 65,536 contents.
 /// - `updates`: fewer than 2^32 updates on any of them, since each weighs something.
+/// - `people`: fewer than 2^32 mentions of any address in From, To and Cc of the present cards, since each weighs something.
+/// - `brought`: fewer than 2^32 updates in all present cards.
 pub fn a_mailbox_is_bounded()
     ensures contents { (m : Mailbox) → IsMailbox m → length (contents m) ≤ max_entries }
     ensures updates { (m : Mailbox) (t : Mail) → IsMailbox m
         → length (shown_by m.me t (acting m t.placed.card)).updates ≤ max_total_weight }
+    ensures people { (m : Mailbox) (addr : Bytes) → IsMailbox m
+        → sum_by (λ p. count_by (bytes_eq addr) (people p.card)) (present_cards m) ≤ max_total_weight }
+    ensures brought { (m : Mailbox) → IsMailbox m
+        → sum_by (λ p. length p.card.updates) (present_cards m) ≤ max_total_weight }
 {}
 
 /// The chats, which a fold over the cards in mail order gives, are those of the rule.
