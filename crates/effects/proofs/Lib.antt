@@ -2,3 +2,4 @@
 pub mod ById
 pub mod Puts
 pub mod Standing
+pub mod Changes
