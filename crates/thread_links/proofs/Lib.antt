@@ -10,3 +10,4 @@ pub mod MapLaws
 pub mod CitedLaws
 pub mod Turns
 pub mod ChangeLaws
+pub mod MailLaws

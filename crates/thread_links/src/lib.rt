@@ -9,6 +9,6 @@ mod links;
 mod work;
 
 pub use cites::cites_of;
-pub use laws::a_card_moves_only_what_names_it;
+pub use laws::{a_card_moves_only_what_names_it, cites_follow_from_mails};
 pub use links::Links;
 pub use mailbox_model::{Cites, Moved};
