@@ -19,9 +19,8 @@ ghost use Rattle.contacts.specs.Kept.{Kept, StandsFor, mentions_at, names_at, na
 ///
 /// - `name`: the last name of an address is the last nonempty one under which it wrote.
 /// - `page`: rows that keep the clauses of `Contacts::page` are the contacts of the rule.
-/// - `add`: what keeps the clauses of `Contacts::add` stands for the cards and the one that comes in, where no address is
-///   mentioned 2^64 - 1 times or more.
-/// - `remove`: what keeps those of `Contacts::remove` stands for all but the one that leaves.
+/// - `add`: after `Contacts::add` of a mail that comes in it stands for that too, where each count is below 2^64 - 1.
+/// - `remove`: after `Contacts::remove` of a mail that leaves it stands for the others.
 pub fn contacts_follow_from_cards()
     ensures name { (kept : Kept) (cards : List Placed) (addr : Bytes) → StandsFor kept cards
         → last_name (names_at kept.names addr) ≡ given_name (map (λ p. p.card) cards) addr }

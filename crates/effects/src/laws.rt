@@ -15,8 +15,8 @@ ghost use Rattle.effects.specs.Named.{StandsFor, named, named_with, named_withou
 ///
 /// - `on`: the uids of an id are those of the cards that name it, in mail order.
 /// - `place`: a spot that is not there yet is put before the first one that follows it in mail order.
-/// - `add`, `remove`: what keeps the clause of `Effects::add` stands for the cards and the one that comes in, and what keeps
-///   that of `Effects::remove` for all but the one that leaves.
+/// - `add`: after `Effects::add` of a mail that comes in it stands for that too.
+/// - `remove`: after `Effects::remove` of a mail that leaves it stands for the others.
 pub fn effects_follow_from_cards()
     ensures on { (spots : List (Bytes × List Spot)) (cards : List Placed) (id : Bytes) → StandsFor spots cards
         → map (λ spot. spot.uid) (named spots id) ≡ map (λ e. e.uid) (naming id cards) }
