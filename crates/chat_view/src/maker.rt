@@ -181,6 +181,14 @@ impl RowMaker {
         }
     }
 
+    /// The moment at which the mail expires, in seconds since 1970-01-01 00:00:00 UTC: `None` where it never does. Takes no
+    /// memory.
+    pub fn expiry(&self) -> Option<u64>
+        ensures { (me : Bytes) (t : Mail) (acts : List Act) → MakesRow me t acts self.now → result ≡ expiry me t }
+    {
+        self.expiry
+    }
+
     /// The row at a moment, in seconds since 1970-01-01 00:00:00 UTC: `None` exactly where it is withdrawn or expired. It is
     /// that of the mail and the acts for which the maker stands. Takes no memory.
     pub fn end(self, now: u64) -> Option<Row>
