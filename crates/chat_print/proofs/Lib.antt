@@ -1,0 +1,3 @@
+-- Lemmas.
+pub mod Spaces
+pub mod Heads
