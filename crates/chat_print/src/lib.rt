@@ -5,9 +5,11 @@
 mod chat;
 mod contacts;
 mod fields;
+mod laws;
 mod list;
 mod print;
 mod times;
 mod updates;
 
+pub use laws::pages_have_moments;
 pub use print::{print_chat, print_contacts, print_list, print_updates};
