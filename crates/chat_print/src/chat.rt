@@ -5,7 +5,7 @@ ghost use Rattle.mailbox_model.specs.Bodies.{body};
 ghost use Rattle.mailbox_model.specs.Printed.{field, file_line, mark_text, or_dash, reader_line, row_line, row_text, chat_text};
 ghost use Rattle.chat_print.specs.Moments.{ChatHasMoments, IsMoment, ReaderHasMoment, RowHasMoments};
 
-use crate::fields::{push_addr, push_field, push_key};
+use crate::fields::{push_addr, push_field};
 use crate::times::push_time;
 use card_type::Attachment;
 use chat_view::body_of;
