@@ -20,6 +20,8 @@ mod names;
 #[cfg(test)]
 mod people;
 #[cfg(test)]
+mod printed;
+#[cfg(test)]
 mod rosters;
 #[cfg(test)]
 mod rows;

@@ -1,0 +1,4 @@
+-- Lemmas.
+pub mod Spaces
+pub mod Heads
+pub mod Dates
