@@ -1,6 +1,8 @@
 //! The list of chats in order.
 ghost use Rattle.std.specs.Prelude.{◌≡◌, [], map, OnOk, OnErr};
+ghost use Rattle.std.specs.List.{IsDistinct};
 ghost use Rattle.std.specs.List.Sorted.{IsStrictlySortedBy};
+ghost use Rattle.card_type.specs.Keys.{key_eq};
 ghost use Rattle.mailbox_model.specs.ChatList.{dated_cmp};
 ghost use Rattle.chatlist.specs.Places.{with_place, without_key};
 
@@ -68,6 +70,7 @@ impl ChatList {
     pub fn order(&self) -> &[ChatKey]
         ensures keys { result.now ≡ map (λ d. d.0) self.now }
         ensures sorted { IsStrictlySortedBy dated_cmp self.now }
+        ensures once { IsDistinct (λ d e. key_eq d.0 e.0) self.now }
     {
         self.order.keys()
     }

@@ -1,6 +1,7 @@
 //! Chats in order, each with its date.
 ghost use Rattle.std.specs.Prelude.{◌≡◌, ◌≤◌, true, None, Some, [], length, map, OnOk};
 ghost use Rattle.std.specs.BTreeMap.{is_at};
+ghost use Rattle.std.specs.List.{IsDistinct};
 ghost use Rattle.std.specs.List.Sorted.{IsStrictlySortedBy};
 ghost use Rattle.std.specs.Map.{lookup};
 ghost use Rattle.std.specs.Ordering.{is_lt};
@@ -8,7 +9,7 @@ ghost use Rattle.card_type.specs.Keys.{key_cmp};
 ghost use Rattle.lists.specs.Sorted.{insert_by};
 ghost use Rattle.mailbox_model.specs.ChatList.{dated_cmp};
 ghost use Rattle.chatlist.specs.Places.{with_place, without_key};
-ghost use Rattle.chatlist.specs.Orders.{IsPlaceOf};
+ghost use Rattle.chatlist.specs.Orders.{IsPlaceOf, same_key};
 
 use card_type::ChatKey;
 use kit::Memory;
@@ -66,6 +67,7 @@ impl Order {
     pub(crate) fn keys(&self) -> &[ChatKey]
         ensures keys { result.now ≡ map (λ d. d.0) self.now.chats }
         ensures sorted { IsStrictlySortedBy dated_cmp self.now.chats }
+        ensures once { IsDistinct same_key self.now.chats }
     {
         &self.keys
     }

@@ -4,6 +4,8 @@
 #[cfg(test)]
 mod acting;
 #[cfg(test)]
+mod asked;
+#[cfg(test)]
 mod boxes;
 #[cfg(test)]
 mod cards;
@@ -15,6 +17,8 @@ mod deadlines;
 mod links;
 #[cfg(test)]
 mod made;
+#[cfg(test)]
+mod mails;
 #[cfg(test)]
 mod names;
 #[cfg(test)]
