@@ -4,8 +4,6 @@
 #[cfg(test)]
 mod acting;
 #[cfg(test)]
-mod asked;
-#[cfg(test)]
 mod boxes;
 #[cfg(test)]
 mod cards;
@@ -17,8 +15,6 @@ mod deadlines;
 mod links;
 #[cfg(test)]
 mod made;
-#[cfg(test)]
-mod mails;
 #[cfg(test)]
 mod names;
 #[cfg(test)]
