@@ -1,0 +1,9 @@
+//! Tests of the engine: what it answers after changes of its mailbox. It has no code of its own.
+#![tactic(auto)]
+
+#[cfg(test)]
+mod asked;
+#[cfg(test)]
+mod mails;
+#[cfg(test)]
+mod read;
