@@ -1,8 +1,8 @@
 //! What an engine answers after changes of its mailbox, in print.
 ghost use Rattle.std.specs.Prelude.{◌≡◌, ◌<◌};
 
+use crate::made::{addr, id, key};
 use crate::mails::*;
-use crate::read::{addr, id, key};
 use chat_card::{CardFault, read_card};
 use chat_print::{print_chat, print_contacts, print_list, print_updates};
 use engine::{ApplyFault, AskFault, Engine};

@@ -4,6 +4,8 @@
 #[cfg(test)]
 mod asked;
 #[cfg(test)]
+mod made;
+#[cfg(test)]
 mod mails;
 #[cfg(test)]
-mod read;
+mod trial;

@@ -1,6 +1,6 @@
 //! Values of literals.
-use card_type::ChatKey;
-use kit::{Addr, Id};
+use card_type::{Card, ChatKey};
+use kit::{Addr, Id, Text};
 use std::alloc::Global;
 use std::test::Fail;
 
@@ -17,4 +17,15 @@ pub(crate) fn key(alloc: Global, bytes: &str) -> Result<ChatKey, Fail> {
         Some(key) => Ok(key),
         None => Err(Fail::from("no key")),
     }
+}
+
+pub(crate) fn text(alloc: Global, bytes: &str) -> Result<Text, Fail> {
+    Ok(Text::from(String::from_str(alloc, bytes)?))
+}
+
+/// A card that says no more than its id and its sender.
+pub(crate) fn plain(alloc: Global, from: &str, bytes: &str) -> Result<Card, Fail> {
+    let id = id(alloc, bytes)?;
+    let from = addr(alloc, from)?;
+    Ok(Card::new(alloc, id, from))
 }

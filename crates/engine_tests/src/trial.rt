@@ -1,0 +1,354 @@
+//! A mailbox of 300 mails that are made by numbers, in four orders of arrival: what an engine answers is what the
+//! definition gives, followed plainly from the mailbox as it then stands.
+ghost use Rattle.std.specs.Prelude.{◌≡◌, ◌<◌};
+
+mod drawn;
+mod plain;
+
+use crate::made::addr;
+use card_type::{Card, ChatKey, is_valid};
+use drawn::{COUNT, HOUR, PEOPLE, START, card, draw_for, id_of};
+use engine::{AskFault, Engine};
+use kit::{Id, Steps};
+use lists::Items;
+use mailbox_model::{Change, ChatPage, ContactRow, Fault, ListPage, UpdateRow};
+use plain::{Mail, contacts_of, list_of, mails, pages_of, updates_of};
+use std::alloc::Global;
+use std::marker::Brand;
+use std::process::Abort;
+use std::sync::ledger::{Blank, Ledger};
+use std::test::Fail;
+
+/// When all arrive: no date is to come.
+const ARRIVAL: u64 = START + 200 * HOUR;
+
+/// When some timers have run out.
+const LATER: u64 = START + 320 * HOUR;
+
+/// An answer, and none where what is asked for is not there.
+fn answered<T: Drop>(answer: Result<T, AskFault>) -> Result<Option<T>, Fail> {
+    match answer {
+        Ok(found) => Ok(Some(found)),
+        Err(AskFault::NoChat | AskFault::NoApp) => Ok(None),
+        Err(fault) => Err(Fail::from(fault)),
+    }
+}
+
+/// Whether two texts are one.
+fn same(rt: &impl Abort, found: &String, expected: &String) {
+    assert_eq!(rt; found.as_str(), expected.as_str());
+}
+
+/// A list, as a text.
+fn list_text(alloc: Global, list: &ListPage) -> Result<String, Fail> {
+    Ok(format!(in alloc; "{list:?}")?)
+}
+
+/// The list of an engine, as a text.
+fn found_list<L: Ledger>(
+    alloc: Global,
+    engine: &Engine,
+    steps: &mut Steps<L>,
+) -> Result<String, Fail> {
+    list_text(alloc, &engine.list(steps)?)
+}
+
+/// The list agrees.
+fn list_agrees<L: Ledger>(
+    rt: &impl Abort,
+    alloc: Global,
+    engine: &Engine,
+    pages: &[ChatPage],
+    steps: &mut Steps<L>,
+) -> Result<(), Fail> {
+    let expected = list_text(alloc, &list_of(alloc, engine.mailbox(), pages)?)?;
+    let found = found_list(alloc, engine, steps)?;
+    same(rt, &found, &expected);
+    Ok(())
+}
+
+/// The page with a key.
+fn page_with<'m>(pages: &'m [ChatPage], key: &ChatKey) -> Option<&'m ChatPage> {
+    for page in pages {
+        if page.key == *key {
+            return Some(page);
+        }
+    }
+    None
+}
+
+/// A page or none, as a text.
+fn page_text(alloc: Global, page: Option<&ChatPage>) -> Result<String, Fail> {
+    Ok(format!(in alloc; "{page:?}")?)
+}
+
+/// The page of a chat of an engine, as a text.
+fn found_page<L: Ledger>(
+    alloc: Global,
+    engine: &Engine,
+    key: &ChatKey,
+    steps: &mut Steps<L>,
+) -> Result<String, Fail> {
+    let page = answered(engine.chat(key, steps))?;
+    page_text(alloc, page.as_ref())
+}
+
+/// The page of a chat agrees.
+fn chat_agrees<L: Ledger>(
+    rt: &impl Abort,
+    alloc: Global,
+    engine: &Engine,
+    pages: &[ChatPage],
+    key: &ChatKey,
+    steps: &mut Steps<L>,
+) -> Result<(), Fail> {
+    let expected = page_text(alloc, page_with(pages, key))?;
+    let found = found_page(alloc, engine, key, steps)?;
+    same(rt, &found, &expected);
+    Ok(())
+}
+
+/// The page of each chat agrees, and so do those of threads some of which are not there.
+fn chats_agree<L: Ledger>(
+    rt: &impl Abort,
+    alloc: Global,
+    engine: &Engine,
+    pages: &[ChatPage],
+    steps: &mut Steps<L>,
+) -> Result<(), Fail> {
+    for page in pages {
+        chat_agrees(rt, alloc, engine, pages, &page.key, steps)?;
+    }
+    for number in 290..310 {
+        let key = ChatKey::Thread(id_of(alloc, number)?);
+        chat_agrees(rt, alloc, engine, pages, &key, steps)?;
+    }
+    Ok(())
+}
+
+/// Contacts, as a text.
+fn contacts_text(alloc: Global, rows: &[ContactRow]) -> Result<String, Fail> {
+    Ok(format!(in alloc; "{rows:?}")?)
+}
+
+/// The contacts agree.
+fn contacts_agree(
+    rt: &impl Abort,
+    alloc: Global,
+    engine: &Engine,
+    mails: &[Mail<'_>],
+) -> Result<(), Fail> {
+    let expected = contacts_of(alloc, mails, engine.mailbox().me())?;
+    let expected = contacts_text(alloc, expected.as_slice())?;
+    let found = contacts_text(alloc, engine.contacts()?.as_slice())?;
+    same(rt, &found, &expected);
+    Ok(())
+}
+
+/// Updates or none, as a text.
+fn updates_text(alloc: Global, updates: Option<&Items<UpdateRow>>) -> Result<String, Fail> {
+    Ok(format!(in alloc; "{updates:?}")?)
+}
+
+/// The updates of an app of an engine, as a text.
+fn found_updates<L: Ledger>(
+    alloc: Global,
+    engine: &Engine,
+    id: &Id,
+    steps: &mut Steps<L>,
+) -> Result<String, Fail> {
+    let updates = answered(engine.updates(id, steps))?;
+    updates_text(alloc, updates.as_ref())
+}
+
+/// The updates of the mail with an id agree.
+fn app_agrees<L: Ledger>(
+    rt: &impl Abort,
+    alloc: Global,
+    engine: &Engine,
+    mails: &[Mail<'_>],
+    id: &Id,
+    steps: &mut Steps<L>,
+) -> Result<(), Fail> {
+    let expected = updates_of(alloc, engine.mailbox(), mails, id)?;
+    let expected = updates_text(alloc, expected.as_ref())?;
+    let found = found_updates(alloc, engine, id, steps)?;
+    same(rt, &found, &expected);
+    Ok(())
+}
+
+/// The updates of each app agree, and so do those of some mails that are none.
+fn apps_agree<L: Ledger>(
+    rt: &impl Abort,
+    alloc: Global,
+    engine: &Engine,
+    mails: &[Mail<'_>],
+    steps: &mut Steps<L>,
+) -> Result<(), Fail> {
+    for number in 0..310u32 {
+        if number % 10 == 3 || number > 290 {
+            app_agrees(rt, alloc, engine, mails, &id_of(alloc, number)?, steps)?;
+        }
+    }
+    Ok(())
+}
+
+/// All answers agree with the definition.
+fn all_agree<L: Ledger>(
+    rt: &impl Abort,
+    alloc: Global,
+    engine: &Engine,
+    steps: &mut Steps<L>,
+) -> Result<(), Fail> {
+    let mailbox = engine.mailbox();
+    let mails = mails(alloc, mailbox, steps)?;
+    let pages = pages_of(alloc, mailbox, mails.as_slice())?;
+    list_agrees(rt, alloc, engine, pages.as_slice(), steps)?;
+    chats_agree(rt, alloc, engine, pages.as_slice(), steps)?;
+    contacts_agree(rt, alloc, engine, mails.as_slice())?;
+    apps_agree(rt, alloc, engine, mails.as_slice(), steps)
+}
+
+/// All answers agree once all is built anew, and so does the list before.
+fn agree<L: Ledger>(
+    rt: &impl Abort,
+    alloc: Global,
+    engine: &mut Engine,
+    steps: &mut Steps<L>,
+) -> Result<(), Fail> {
+    let before = found_list(alloc, engine, steps)?;
+    engine.rebuild(steps)?;
+    let after = found_list(alloc, engine, steps)?;
+    same(rt, &before, &after);
+    all_agree(rt, alloc, engine, steps)
+}
+
+/// A card arrives.
+fn arrives<L: Ledger>(engine: &mut Engine, card: Card, steps: &mut Steps<L>) -> Result<(), Fail> {
+    if !is_valid(&card) {
+        return Err(Fail::from("no valid card"));
+    }
+    Ok(engine.apply(Change::Arrive(card), steps)?)
+}
+
+/// All mails arrive, from this number on and in steps of this length; a few have no card.
+fn all_arrive<L: Ledger>(
+    alloc: Global,
+    engine: &mut Engine,
+    first: u32,
+    stride: u32,
+    steps: &mut Steps<L>,
+) -> Result<(), Fail> {
+    let mut number = first;
+    for _ in 0..COUNT {
+        if number % 37 == 36 {
+            engine.apply(Change::ArriveFault(Fault::NoFrom), steps)?;
+        } else {
+            arrives(engine, card(alloc, number)?, steps)?;
+        }
+        number = number.wrapping_add(stride) % COUNT;
+    }
+    Ok(())
+}
+
+/// Some are seen, some go, and time passes.
+fn some_go<L: Ledger>(engine: &mut Engine, steps: &mut Steps<L>) -> Result<(), Fail> {
+    let mut draw = draw_for(COUNT);
+    for _ in 0..24 {
+        engine.apply(Change::Seen(1 + draw.below(COUNT)), steps)?;
+    }
+    for _ in 0..12 {
+        engine.apply(Change::Expunge(1 + draw.below(COUNT)), steps)?;
+    }
+    Ok(engine.apply(Change::At(LATER), steps)?)
+}
+
+/// Another card arrives with an id that is there.
+fn copy_arrives<L: Ledger>(
+    alloc: Global,
+    engine: &mut Engine,
+    number: u32,
+    date: u64,
+    steps: &mut Steps<L>,
+) -> Result<(), Fail> {
+    let id = id_of(alloc, number)?;
+    let mut card = card(alloc, number.wrapping_add(COUNT))?;
+    card.id = id;
+    card.date = Some(date);
+    arrives(engine, card, steps)
+}
+
+/// Earlier and later copies arrive.
+fn copies_arrive<L: Ledger>(
+    alloc: Global,
+    engine: &mut Engine,
+    steps: &mut Steps<L>,
+) -> Result<(), Fail> {
+    let mut draw = draw_for(COUNT + 1);
+    for _ in 0..6 {
+        copy_arrives(alloc, engine, draw.below(COUNT), START, steps)?;
+        copy_arrives(alloc, engine, draw.below(COUNT), LATER, steps)?;
+    }
+    Ok(())
+}
+
+/// The answers agree after the arrivals, after what happens then, and after copies.
+fn stages_agree<L: Ledger>(
+    rt: &impl Abort,
+    alloc: Global,
+    engine: &mut Engine,
+    first: u32,
+    stride: u32,
+    steps: &mut Steps<L>,
+) -> Result<(), Fail> {
+    engine.apply(Change::At(ARRIVAL), steps)?;
+    all_arrive(alloc, engine, first, stride, steps)?;
+    agree(rt, alloc, engine, steps)?;
+    some_go(engine, steps)?;
+    agree(rt, alloc, engine, steps)?;
+    copies_arrive(alloc, engine, steps)?;
+    agree(rt, alloc, engine, steps)
+}
+
+/// They agree of an engine that begins with the empty mailbox.
+fn all_stages_agree<L: Ledger>(
+    rt: &impl Abort,
+    alloc: Global,
+    first: u32,
+    stride: u32,
+    blank: Blank,
+) -> Result<(), Fail>
+    requires name { blank.name ≡ L.name }
+    requires whole { blank.parts ≡ L.parts }
+    requires some { 0 < blank.parts }
+{
+    let me = addr(alloc, PEOPLE[0])?;
+    let mut steps = Steps::<L>::open(blank);
+    let mut engine = Engine::new(alloc, me);
+    stages_agree(rt, alloc, &mut engine, first, stride, &mut steps)
+}
+
+/// They agree where the mails arrive from this number on, in steps of this length.
+fn answers_agree(rt: &impl Abort, alloc: Global, first: u32, stride: u32) -> Result<(), Fail> {
+    all_stages_agree::<Brand>(rt, alloc, first, stride, Blank::new(1))
+}
+
+#[test]
+fn by_number(rt: HostRuntime) -> Result<(), Fail> {
+    answers_agree(&rt, rt.alloc(), 0, 1)
+}
+
+#[test]
+fn backwards(rt: HostRuntime) -> Result<(), Fail> {
+    answers_agree(&rt, rt.alloc(), 299, 299)
+}
+
+#[test]
+fn by_sevens(rt: HostRuntime) -> Result<(), Fail> {
+    answers_agree(&rt, rt.alloc(), 17, 7)
+}
+
+#[test]
+fn by_many(rt: HostRuntime) -> Result<(), Fail> {
+    answers_agree(&rt, rt.alloc(), 250, 113)
+}
