@@ -2,6 +2,9 @@
 pub mod Causes
 pub mod Bytes
 pub mod Places
+pub mod Crash
+pub mod Moments
+pub mod Unsynced
 pub mod Lent
 pub mod Schedule
 pub mod MemorySource

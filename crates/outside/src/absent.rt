@@ -78,4 +78,10 @@ impl Shelf for NoShelf {
     {
         Err(self.faults.fail())
     }
+
+    ghost is_outcome = { λ _. tt };
+
+    ghost counts_now = { λ shelf t c earlier now. absurd now };
+
+    ghost only_now = { λ shelf c left. absurd left };
 }

@@ -1,0 +1,6 @@
+pub mod Bytewise
+pub mod Model
+pub mod Whole
+pub mod Moments
+pub mod Known
+mod Rows
