@@ -1,12 +1,13 @@
 pub mod GluedLines
 pub mod Stepping
 pub mod Unchanged
-pub mod Prefixes
-pub mod Taking
 pub mod NextMail
 pub mod Progress
 pub mod Reaching
 pub mod Answered
-pub mod Dropped
 pub mod Skipped
+pub mod LineCuts
+pub mod Groups
+pub mod Grown
+pub mod GoingOn
 mod Rows

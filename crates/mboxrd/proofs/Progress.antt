@@ -1,5 +1,5 @@
 -- How far a reader has come on its way to the next separator line.
-use Rattle.std.proofs.Common.{◌≡◌, ℕ, Bool, true, false, List, [], ◌++◌, take, refl, sym, ap, ◌∙◌, append_assoc, Option, None, Some}
+use Rattle.std.proofs.Common.{◌≡◌, ℕ, Bool, true, false, List, [], ◌++◌, refl, sym, ap, ◌∙◌, append_assoc, Option, None, Some}
 use Rattle.std.proofs.lemmas.List.{append-nil}
 use Rattle.mboxrd.specs.declared.fault.BoxFault.{BoxFault}
 use Rattle.mboxrd.specs.declared.fault.BoxFault.TheVariants.{Memory, Endless}
@@ -7,15 +7,15 @@ use Rattle.mboxrd.specs.declared.line_state.LineState.{LineState}
 use Rattle.mboxrd.specs.declared.line_state.LineState.TheVariants.{Separator, Start, From, Quote, Cr, Inside}
 use Rattle.mboxrd.specs.Remaining.{Remaining, push}
 use Rattle.mboxrd.specs.LineStates.{remaining_from, IsLineState, StepsTo, EndsWith}
-use Rattle.mboxrd.specs.Buffered.{Buffered, BufferTakes}
-use Rattle.mboxrd.specs.Prefix.{Prefix, Keeps}
+use Rattle.source_buffer.specs.Buffered.{Buffered, BufferTakes}
+use Rattle.source_buffer.specs.Kept.{Kept, Keeps}
 use Rattle.mboxrd.specs.ToSeparator.{Reaches, NoSeparator}
-use Rattle.mboxrd.proofs.Prefixes.{Keeps_more, Keeps_none}
-use Rattle.mboxrd.proofs.Taking.{BufferTakes_more, BufferTakes_none}
+use Rattle.source_buffer.proofs.Prefixes.{Keeps_more, Keeps_none}
+use Rattle.source_buffer.proofs.Taking.{BufferTakes_more, BufferTakes_none, held_more}
 use Rattle.mboxrd.proofs.Stepping.{from_end, quote_end, separator_end, start_end, inside_end, cr_end}
 
 -- `bytes` were taken of the source, `passed` is what the reader has passed, and `added` is what the mail has of it.
-pub record Progress (l m : Option (List ℕ)) (a b : Buffered) (k n : Prefix) (start state : LineState) : Type 0 where
+pub record Progress (l m : Option (List ℕ)) (a b : Buffered) (k n : Kept) (start state : LineState) : Type 0 where
   pub bytes : List ℕ
   pub passed : List ℕ
   pub added : List ℕ
@@ -24,7 +24,7 @@ pub record Progress (l m : Option (List ℕ)) (a b : Buffered) (k n : Prefix) (s
   pub keeps : Keeps k n added
   pub comes : (bs : List ℕ) → remaining_from start (passed ++ bs) ≡ push added (remaining_from state bs)
 
-pub progress_none : (l : Option (List ℕ)) (a : Buffered) (k : Prefix) (start : LineState) → Progress l l a a k k start start
+pub progress_none : (l : Option (List ℕ)) (a : Buffered) (k : Kept) (start : LineState) → Progress l l a a k k start start
 progress_none l a k start = record {
   bytes = [];
   passed = [];
@@ -35,14 +35,10 @@ progress_none l a k start = record {
   comes = λ bs. refl;
 }
 
-pub held_more : (h p q passed mid more held : List ℕ) → h ++ p ≡ passed ++ mid → mid ++ q ≡ more ++ held → h ++ (p ++ q) ≡ (passed ++ more) ++ held
-held_more h p q passed mid more held x y =
-    sym (append_assoc h p q) ∙ ap (λ l. l ++ q) x ∙ append_assoc passed mid q ∙ ap (λ l. passed ++ l) y ∙ sym (append_assoc passed more held)
-
 push_push : (x y : List ℕ) (h : Remaining) → push x (push y h) ≡ push (x ++ y) h
 push_push x y h = rw append_assoc refl
 
-pub progress_more : (l m o : Option (List ℕ)) (a b c : Buffered) (k n p : Prefix) (start state next : LineState) (read bytes added : List ℕ)
+pub progress_more : (l m o : Option (List ℕ)) (a b c : Buffered) (k n p : Kept) (start state next : LineState) (read bytes added : List ℕ)
     → Progress l m a b k n start state → BufferTakes m o b c bytes → b.held ++ bytes ≡ read ++ c.held → Keeps n p added → StepsTo state read added (Some next)
     → Progress l o a c k p start next
 progress_more l m o a b c k n p start state next read bytes added r took held keeps steps = record {
@@ -56,10 +52,10 @@ progress_more l m o a b c k n p start state next read bytes added r took held ke
 }
 
 -- the same at the separator line or the end
-abbrev pub Arrival : Option (List ℕ) → Option (List ℕ) → Buffered → Buffered → Prefix → Prefix → LineState → Bool → Type 0
+abbrev pub Arrival : Option (List ℕ) → Option (List ℕ) → Buffered → Buffered → Kept → Kept → LineState → Bool → Type 0
 Arrival l m a b k n start found = (bytes : List ℕ) × BufferTakes l m a b bytes × ((passed : List ℕ) × (added : List ℕ) × (a.held ++ bytes ≡ passed ++ b.held) × Keeps k n added × Reaches start passed added found)
 
-pub arrives_cut : (l m o : Option (List ℕ)) (a b c : Buffered) (k n p : Prefix) (start state : LineState) (read bytes added : List ℕ)
+pub arrives_cut : (l m o : Option (List ℕ)) (a b c : Buffered) (k n p : Kept) (start state : LineState) (read bytes added : List ℕ)
     → Progress l m a b k n start state → BufferTakes m o b c bytes → b.held ++ bytes ≡ read ++ c.held → Keeps n p added → StepsTo state read added None
     → Arrival l o a c k p start true
 arrives_cut l m o a b c k n p start state read bytes added r took held keeps steps = (
@@ -74,7 +70,7 @@ arrives_cut l m o a b c k n p start state read bytes added r took held keeps ste
   ),
 )
 
-pub arrives_end : (l m o : Option (List ℕ)) (a b c : Buffered) (k n p : Prefix) (start state : LineState) (bytes added : List ℕ)
+pub arrives_end : (l m o : Option (List ℕ)) (a b c : Buffered) (k n p : Kept) (start state : LineState) (bytes added : List ℕ)
     → Progress l m a b k n start state → BufferTakes m o b c bytes → b.held ++ bytes ≡ c.held → Keeps n p added → EndsWith state added
     → Arrival l o a c k p start false
 arrives_end l m o a b c k n p start state bytes added r took held keeps ends = (
@@ -98,7 +94,7 @@ ends_somehow Cr s = (_, cr_end)
 ends_somehow Inside s = (_, inside_end)
 
 -- where all that was taken has been passed, and no separator line was found in it
-pub progress_all : (l m o : Option (List ℕ)) (a b c : Buffered) (k n : Prefix) (start state : LineState) (bytes : List ℕ)
+pub progress_all : (l m o : Option (List ℕ)) (a b c : Buffered) (k n : Kept) (start state : LineState) (bytes : List ℕ)
     → Progress l m a b k n start state → IsLineState state → BufferTakes m o b c bytes → b.held ++ bytes ≡ []
     → (all : List ℕ) × BufferTakes l o a c all × NoSeparator start (a.held ++ all)
 progress_all l m o a b c k n start state bytes r s took none =
@@ -108,11 +104,6 @@ progress_all l m o a b c k n start state bytes r s took none =
       BufferTakes_more l m o a b c r.bytes bytes r.took took,
       (r.added ++ e.0, ap (remaining_from start) (met ∙ sym (append-nil r.passed)) ∙ r.comes [] ∙ ap (push r.added) e.1),
     )
-
--- bytes of the source are held, and so many of them are dropped
-pub let_go : (b mid c : Buffered) (bytes held : List ℕ) (n : ℕ) → b.held ++ bytes ≡ mid.held → held ≡ mid.held → mid.held ≡ take n mid.held ++ c.held
-    → b.held ++ bytes ≡ take n held ++ c.held
-let_go b mid c bytes held n e f g = e ∙ g ∙ ap (λ z. take n z ++ c.held) (sym f)
 
 pub clash : (x : BoxFault) → x ≡ Memory → x ≡ Endless → ⊥
 clash x m e = cc

@@ -6,18 +6,16 @@ use Rattle.mboxrd.specs.declared.line_state.LineState.TheVariants.{Separator, St
 use Rattle.mboxrd.specs.Remaining.{from_text}
 use Rattle.mboxrd.specs.Mails.{Mail, mails_from}
 use Rattle.mboxrd.specs.LineStates.{remaining_from}
-use Rattle.mboxrd.specs.Buffered.{Buffered, BufferTakes}
+use Rattle.source_buffer.specs.Buffered.{Buffered, BufferTakes}
+use Rattle.source_buffer.proofs.Taking.{held_on}
 use Rattle.mboxrd.specs.Reading.{Reading, Takes}
-use Rattle.mboxrd.specs.Buffered.{with_from}
+use Rattle.mboxrd.specs.Held.{with_from}
 use Rattle.mboxrd.specs.Answers.{HoldsRest, AtMostOneMail}
 use Rattle.mboxrd.specs.ToSeparator.{Reaches, NoSeparator, SameMails, OneMail}
 use Rattle.mboxrd.proofs.NextMail.{mail_from, mails_after, ends_in_from, mail_ends_in_from}
 
 abbrev pub reading : Buffered → ℕ → Bool → Bool → Reading
 reading f place met refused = record { held = with_from met f.held; place = place; taken = f.taken; budget = f.budget; at_separator = met; refused = refused }
-
-met_on : (h p passed held rest : List ℕ) → h ++ p ≡ passed ++ held → h ++ (p ++ rest) ≡ passed ++ (held ++ rest)
-met_on h p passed held rest e = sym (append_assoc h p rest) ∙ ap (λ z. z ++ rest) e ∙ append_assoc passed held rest
 
 -- at a separator line, what was passed ends with its `From `
 passed_from : (passed added : List ℕ) → Reaches (Start Nothing) passed added true → (prefix : List ℕ) × (passed ≡ prefix ++ from_text)
@@ -31,7 +29,7 @@ reaches a b p q r v bytes passed added true within t met none reaching rest may 
     let y = from_text ++ (b.held ++ rest) in
     let e = passed_from passed added reaching in
     let count : length a.held + length bytes ≡ length passed + length b.held = omega (arith, ap length met, length-append a.held bytes, length-append passed b.held) in
-    ap (mails_from (a.taken - length a.held)) (met_on a.held bytes passed b.held rest met)
+    ap (mails_from (a.taken - length a.held)) (held_on a.held bytes passed b.held rest met)
     ∙ mails_after (a.taken - length a.held) x y added (b.taken - length (from_text ++ b.held)) (reaching (b.held ++ rest))
     (omega (arith, within, t, count, ap length e.1, length-append e.0 from_text, length-append b.held rest, length-append passed (b.held ++ rest)))
     ∙ ap (mails_from (b.taken - length (from_text ++ b.held))) (sym (append_assoc from_text b.held rest))
@@ -39,7 +37,7 @@ reaches a b p q r v bytes passed added false within t met none reaching rest may
     let met_all : a.held ++ bytes ≡ passed = met ∙ ap (λ z. passed ++ z) (none refl) ∙ append-nil passed in
     let count : length a.held + length bytes ≡ length passed = omega (arith, ap length met_all, length-append a.held bytes) in
     let nothing : b.held ++ rest ≡ [] = ap (λ z. z ++ rest) (none refl) ∙ may refl in
-    ap (mails_from (a.taken - length a.held)) (met_on a.held bytes passed b.held rest met ∙ ap (λ z. passed ++ z) nothing ∙ append-nil passed)
+    ap (mails_from (a.taken - length a.held)) (held_on a.held bytes passed b.held rest met ∙ ap (λ z. passed ++ z) nothing ∙ append-nil passed)
     ∙ mails_after (a.taken - length a.held) passed [] added (b.taken - length b.held) reaching (omega (arith, within, t, count, ap length (none refl)))
     ∙ ap (mails_from (b.taken - length b.held)) (sym nothing)
 
@@ -57,7 +55,7 @@ one_mail a b p q r v bytes passed added true within t met none reaching rest may
     let y = from_text ++ (b.held ++ rest) in
     let end = b.taken - length (from_text ++ b.held) in
     let count : length a.held + length bytes ≡ length passed + length b.held = omega (arith, ap length met, length-append a.held bytes, length-append passed b.held) in
-    ap (λ z. mails_from (a.taken - length (from_text ++ a.held)) (from_text ++ z)) (met_on a.held bytes passed b.held rest met)
+    ap (λ z. mails_from (a.taken - length (from_text ++ a.held)) (from_text ++ z)) (held_on a.held bytes passed b.held rest met)
     ∙ mail_from (a.taken - length (from_text ++ a.held)) x y added end (reaching (b.held ++ rest))
     (omega (arith, within, t, count, length-append b.held rest, length-append passed (b.held ++ rest)))
 one_mail a b p q r v bytes passed added false within t met none reaching rest may =
@@ -65,7 +63,7 @@ one_mail a b p q r v bytes passed added false within t met none reaching rest ma
     let count : length a.held + length bytes ≡ length passed = omega (arith, ap length met_all, length-append a.held bytes) in
     let nothing : b.held ++ rest ≡ [] = ap (λ z. z ++ rest) (none refl) ∙ may refl in
     let made : List Mail → List Mail = λ ms. record { bytes = added; end = b.taken - length b.held } ∷ ms in
-    ap (λ z. mails_from (a.taken - length (from_text ++ a.held)) (from_text ++ z)) (met_on a.held bytes passed b.held rest met ∙ ap (λ z. passed ++ z) nothing ∙ append-nil passed)
+    ap (λ z. mails_from (a.taken - length (from_text ++ a.held)) (from_text ++ z)) (held_on a.held bytes passed b.held rest met ∙ ap (λ z. passed ++ z) nothing ∙ append-nil passed)
     ∙ mail_from (a.taken - length (from_text ++ a.held)) passed [] added (b.taken - length b.held) reaching (omega (arith, within, t, count, ap length (none refl)))
     ∙ ap (λ z. made (mails_from (b.taken - length b.held) z)) (sym nothing)
 

@@ -1,5 +1,5 @@
 -- Worked rows of the definitions, which compute.
-use Rattle.std.proofs.Common.{◌≡◌, ℕ, List, [], ◌∷◌, codes, refl}
+use Rattle.std.proofs.Common.{◌≡◌, ℕ, List, [], ◌∷◌, ◌++◌, codes, refl}
 use Rattle.mboxrd.specs.Mails.{Mail, mails_from, unquoted}
 
 abbrev mail : List ℕ → ℕ → Mail
@@ -40,3 +40,10 @@ unquoted_rows = refl
 
 unquoted_prefix : unquoted (codes ">>From") ≡ codes ">>From"
 unquoted_prefix = refl
+
+-- mails that were added after an empty line, and bytes that were added after another line: these belong to the last mail
+grown : mails_from 0 (codes "From -\na\n\n" ++ codes "From -\nb\n") ≡ mail (codes "a\n") 10 ∷ mail (codes "b\n") 19 ∷ []
+grown = refl
+
+grown_inside : mails_from 0 (codes "From -\na\n" ++ codes "From -\nb\n") ≡ mail (codes "a\nFrom -\nb\n") 18 ∷ []
+grown_inside = refl

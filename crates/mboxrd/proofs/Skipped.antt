@@ -1,10 +1,10 @@
 -- A reader's position after a skip.
 use Rattle.std.proofs.Common.{◌≡◌, ℕ, ◌+◌, ◌≤◌, Bool, false, List, length, sym, ap, subst, ◌∙◌, Option}
-use Rattle.mboxrd.specs.Buffered.{Buffered, BufferTakes}
-use Rattle.mboxrd.specs.Reading.{Reading, IsAt, position}
-use Rattle.mboxrd.specs.Buffered.{with_from}
-use Rattle.mboxrd.specs.Answers.{Drops, IfKnown}
-use Rattle.mboxrd.proofs.Answered.{moved, at_position}
+use Rattle.source_buffer.specs.Buffered.{Buffered, BufferTakes, Drops}
+use Rattle.source_buffer.specs.Known.{IfKnown}
+use Rattle.mboxrd.specs.Reading.{Reading, IsAt, buffered, position}
+use Rattle.mboxrd.specs.Held.{with_from}
+use Rattle.source_buffer.proofs.Positions.{moved, at_position}
 use Rattle.mboxrd.proofs.Reaching.{reading, takes_buffered, fits_as}
 
 pub skipped : (l m : Option (List ℕ)) (old : Reading) (f b : Buffered) (s : Bool) (p q : ℕ) (r v : Bool) (bytes : List ℕ) (n : ℕ)
@@ -20,8 +20,8 @@ skipped l m old f b s p q r v bytes n view is fits fewer took drops =
     let there = reading b q false v in
     let takes = takes_buffered l m f b p q r v false false bytes took in
     let base : P false here = (
-      moved l m here there bytes drops.0 within (fewer within) takes drops.1 ∙ ap (λ k. position here + k) drops.2,
-      at_position l m here there bytes within (fewer within) takes (drops.0, drops.1),
+      moved l m (buffered here) (buffered there) bytes drops.0 within (fewer within) takes drops.1 ∙ ap (λ k. position here + k) drops.2,
+      at_position l m (buffered here) (buffered there) bytes within (fewer within) takes (drops.0, drops.1),
     ) in
     let Q : Bool → Type 0 = λ z. P z (reading f p z r) in
     subst (P s) view (subst Q (sym is) base)

@@ -1,5 +1,6 @@
 -- What a reader of an mbox answers.
-use Rattle.std.specs.Prelude.{◌≡◌, ◌≤◌, ◌<◌, ℕ, false, List, [], ◌∷◌, ◌++◌, length, Option, Some, None, ⊤}
+use Rattle.std.specs.Prelude.{◌≡◌, ◌≤◌, ◌<◌, ℕ, false, List, [], ◌∷◌, ◌++◌, length}
+use Rattle.source_buffer.specs.Buffered as buffer
 use Rattle.mboxrd.specs.declared.taken.Taken.{Taken}
 use Rattle.mboxrd.specs.declared.taken.Taken.TheVariants as taken
 use Rattle.mboxrd.specs.Mails.{Mail, mails_from}
@@ -30,18 +31,8 @@ Decides old bytes answer new = (rest : List ℕ) → MayFollow new rest
 
 -- what is held now is the rest of what was held and taken
 abbrev pub HoldsRest : Reading → List ℕ → Reading → Type 0
-HoldsRest old bytes new = (prefix : List ℕ) × (old.held ++ bytes ≡ prefix ++ new.held)
+HoldsRest old bytes new = buffer.HoldsRest old.held bytes new.held
 
 -- At most one mail begins in what was held and taken, so where it ends is not known yet.
 abbrev pub AtMostOneMail : Reading → List ℕ → Type 0
 AtMostOneMail old bytes = length (mails_from (position old) (old.held ++ bytes)) ≤ 1
-
--- so many of the bytes that were held and taken were dropped, and those after them are held
-abbrev pub Drops : List ℕ → List ℕ → ℕ → List ℕ → Type 0
-Drops held bytes count rest = (dropped : List ℕ) × (held ++ bytes ≡ dropped ++ rest) × (length dropped ≡ count)
-
--- if the bytes that a source had before a call are known, so are those that it has after it, and this holds of both
-abbrev pub IfKnown : Option (List ℕ) → Option (List ℕ) → (List ℕ → List ℕ → Type 0) → Type 0
-IfKnown None after P = ⊤
-IfKnown (Some before) None P = ⊥
-IfKnown (Some before) (Some after) P = P before after

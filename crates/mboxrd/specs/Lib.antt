@@ -2,9 +2,10 @@
 pub mod Mails
 pub mod Reading
 pub mod Answers
+pub mod Faults
+pub mod Growth
 -- What only proofs and private functions use.
 pub mod Remaining
 pub mod LineStates
 pub mod ToSeparator
-pub mod Buffered
-pub mod Prefix
+pub mod Held

@@ -1,6 +1,6 @@
 -- What contracts see of a reader of an mbox.
-use Rattle.std.specs.Prelude.{◌≡◌, ℕ, ◌+◌, ◌-◌, Bool, List, ◌++◌, length, drop, Option}
-use Rattle.std.specs.Io.KnownBytes.{Consumes}
+use Rattle.std.specs.Prelude.{ℕ, Bool, List, Option}
+use Rattle.source_buffer.specs.Buffered as buffer
 
 -- `held` are the bytes that it took of its source and has not passed yet, and `place` is the offset where the last mail
 -- ended. `taken` counts the bytes that it took so far, and `budget` those that it may take in all. `at_separator` says
@@ -13,16 +13,18 @@ pub record Reading : Type 0 where
   pub at_separator : Bool
   pub refused : Bool
 
+-- the same as its buffer would be seen
+abbrev pub buffered : Reading → buffer.Buffered
+buffered r = record { held = r.held; taken = r.taken; budget = r.budget }
+
 -- the offset of what it holds: how many bytes come before that
 abbrev pub position : Reading → ℕ
-position r = r.taken - length r.held
+position r = buffer.position (buffered r)
 
 -- what is held, followed by what the source has left, is the file from the reader's position on
 abbrev pub IsAt : List ℕ → List ℕ → Reading → Type 0
-IsAt file left r = r.held ++ left ≡ drop (position r) file
+IsAt file left r = buffer.IsAt file left (buffered r)
 
 -- these bytes were taken of what a source had left
-pub record Takes (left_before left_after : Option (List ℕ)) (before after : Reading) (bytes : List ℕ) : Type 0 where
-  pub left : Consumes left_before left_after bytes
-  pub taken : after.taken ≡ before.taken + length bytes
-  pub budget : after.budget ≡ before.budget
+abbrev pub Takes : Option (List ℕ) → Option (List ℕ) → Reading → Reading → List ℕ → Type 0
+Takes left_before left_after before after bytes = buffer.BufferTakes left_before left_after (buffered before) (buffered after) bytes

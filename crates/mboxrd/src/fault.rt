@@ -1,9 +1,10 @@
 //! Why a reader of an mbox gives no answer.
 ghost use Rattle.std.specs.Prelude.{◌≡◌};
+ghost use Rattle.mboxrd.specs.Faults.{box_fault};
 ghost use Rattle.mboxrd.specs.declared.fault.BoxFault.TheVariants as fault;
 
 use kit::Memory;
-use outside::Failed;
+use source_buffer::BufferFault;
 use thiserror::Error;
 
 // No clause says when memory runs out, as of `kit::Memory`: a body that only answers so meets each contract
@@ -23,11 +24,14 @@ pub enum BoxFault {
     Memory,
 }
 
-impl From<Failed> for BoxFault {
-    ghost from_gives = { λ _ why. why ≡ fault.Read };
+impl From<BufferFault> for BoxFault {
+    ghost from_gives = { λ buffer why. why ≡ box_fault buffer };
 
-    fn from(_failed: Failed) -> BoxFault {
-        BoxFault::Read
+    fn from(fault: BufferFault) -> BoxFault {
+        match fault {
+            BufferFault::Read => BoxFault::Read,
+            BufferFault::Endless => BoxFault::Endless,
+        }
     }
 }
 

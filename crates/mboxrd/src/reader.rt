@@ -2,19 +2,20 @@
 ghost use Rattle.std.specs.Prelude.{◌≡◌, ◌<◌, ◌≤◌, ◌+◌, ◌++◌, ℕ, List, [], take, drop, length, min, IfOk, OnOk, OnErr, IsErrOf, MatchResult, true, false};
 ghost use Rattle.std.specs.Io.KnownBytes.{IsAtEnd};
 ghost use Rattle.outside.specs.Causes.{Rose};
+ghost use Rattle.source_buffer.specs.Buffered.{Drops};
+ghost use Rattle.source_buffer.specs.Known.{IfKnown};
 ghost use Rattle.mboxrd.specs.Mails.{mails_from};
 ghost use Rattle.mboxrd.specs.Reading.{IsAt, Takes, position};
-ghost use Rattle.mboxrd.specs.Answers.{max_mail_len, AtMostOneMail, HoldsRest, Decides, IsNext, Drops, IfKnown};
+ghost use Rattle.mboxrd.specs.Answers.{max_mail_len, AtMostOneMail, HoldsRest, Decides, IsNext};
 ghost use Rattle.mboxrd.specs.ToSeparator.{SameMails, OneMail};
 
-use crate::buffer::Buffer;
 use crate::fault::BoxFault;
 use crate::line_state::{LineState, Preceding};
-use crate::mail_prefix::MailPrefix;
 use crate::separator::read_to_separator;
 use crate::taken::Taken;
 use kit::Memory;
 use outside::Source;
+use source_buffer::{Buffer, Prefix};
 use std::alloc::Global;
 use std::marker::Model;
 
@@ -43,7 +44,7 @@ pub struct MboxReader {
 impl Model for MboxReader {
     ghost use Rattle.std.specs.Prelude.{◌≤◌, length};
     ghost use Rattle.mboxrd.specs.Reading.{Reading};
-    ghost use Rattle.mboxrd.specs.Buffered.{with_from};
+    ghost use Rattle.mboxrd.specs.Held.{with_from};
 
     ghost Value = { Reading };
 
@@ -149,7 +150,7 @@ impl MboxReader {
         if self.at_separator {
             return Ok(true);
         }
-        let mut nothing = MailPrefix::new(alloc, 0);
+        let mut nothing = Prefix::new(alloc, 0);
         self.refused = true;
         self.at_separator = read_to_separator(
             &mut self.buffer,
@@ -181,7 +182,7 @@ impl MboxReader {
     {
         self.refused = true;
         self.at_separator = false;
-        let mut mail = MailPrefix::new(alloc, MAX_MAIL_LEN + 1);
+        let mut mail = Prefix::new(alloc, MAX_MAIL_LEN + 1);
         let found = read_to_separator(&mut self.buffer, source, LineState::Separator, &mut mail)?;
         self.at_separator = found;
         // The mail ends before the `From ` that was read.

@@ -2,17 +2,16 @@
 ghost use Rattle.std.specs.Prelude.{◌≡◌, ◌≤◌, ◌++◌, ℕ, List, [], length, IfOk, IsErrOf, MatchResult, false};
 ghost use Rattle.std.specs.Io.KnownBytes.{IsAtEnd};
 ghost use Rattle.outside.specs.Causes.{Rose};
-ghost use Rattle.mboxrd.specs.Buffered.{BufferTakes};
-ghost use Rattle.mboxrd.specs.Prefix.{Keeps};
+ghost use Rattle.source_buffer.specs.Buffered.{BufferTakes};
+ghost use Rattle.source_buffer.specs.Kept.{Keeps};
 ghost use Rattle.mboxrd.specs.LineStates.{IsLineState};
 ghost use Rattle.mboxrd.specs.ToSeparator.{Reaches, NoSeparator};
 
-use crate::buffer::Buffer;
 use crate::fault::BoxFault;
 use crate::line_state::LineState;
-use crate::mail_prefix::MailPrefix;
 use crate::step::{finish, read_on};
 use outside::Source;
+use source_buffer::{Buffer, Prefix};
 
 /// Reads from a state within a line to after the `From ` of the next separator line, or to the end, and says
 /// whether there is one. What comes before it is added to the mail. Takes memory for that.
@@ -20,7 +19,7 @@ pub fn read_to_separator<S: Source>(
     buffer: &mut Buffer,
     source: &mut S,
     start: LineState,
-    mail: &mut MailPrefix,
+    mail: &mut Prefix,
 ) -> Result<bool, BoxFault>
     requires { IsLineState start }
     ensures later { S.faults source.old ≤ S.faults source.new }

@@ -1,14 +1,14 @@
 //! What a reader does with the next bytes of a line.
 ghost use Rattle.std.specs.Prelude.{◌≡◌, ◌<◌, ◌≤◌, ◌&&◌, ◌==◌, ℕ, List, [], ◌∷◌, length, take, IfOk, OnOk, Some, None, true};
-ghost use Rattle.mboxrd.specs.Prefix.{Keeps};
+ghost use Rattle.source_buffer.specs.Kept.{Keeps};
 ghost use Rattle.mboxrd.specs.LineStates.{StepsTo, IsLineState, EndsWith, state_after, separator_may_follow, withheld_line};
 ghost use Rattle.mboxrd.specs.declared.line_state.LineState.TheVariants as state;
 ghost use Rattle.mboxrd.specs.declared.line_state.Preceding.TheVariants as before;
 
 use crate::line_state::{LineState, Preceding};
-use crate::mail_prefix::MailPrefix;
 use kit::Memory;
 use memchr::memchr;
+use source_buffer::Prefix;
 
 const FROM: [u8; 5] = *b"From ";
 
@@ -48,7 +48,7 @@ fn may_begin_separator(preceding: Preceding, b: u8) -> bool
 }
 
 // The first byte of a line.
-fn at_start(preceding: Preceding, b: u8, mail: &mut MailPrefix) -> Result<LineState, Memory>
+fn at_start(preceding: Preceding, b: u8, mail: &mut Prefix) -> Result<LineState, Memory>
     ensures { IfOk result (λ next. (added : List ℕ) × Keeps mail.old mail.new added × StepsTo (state.Start preceding) (b ∷ []) added (Some next)) }
 {
     if may_begin_separator(preceding, b) {
@@ -82,7 +82,7 @@ fn at_from(
     preceding: Preceding,
     k: usize,
     b: u8,
-    mail: &mut MailPrefix,
+    mail: &mut Prefix,
 ) -> Result<Option<LineState>, Memory>
     requires { IsLineState (state.From preceding k) }
     ensures { IfOk result (λ next. (added : List ℕ) × Keeps mail.old mail.new added × StepsTo (state.From preceding k) (b ∷ []) added next) }
@@ -101,7 +101,7 @@ fn at_from(
 }
 
 // The next byte after one or more `>` and the first `k` bytes of `From `.
-fn at_quote(k: usize, b: u8, mail: &mut MailPrefix) -> Result<LineState, Memory>
+fn at_quote(k: usize, b: u8, mail: &mut Prefix) -> Result<LineState, Memory>
     requires { IsLineState (state.Quote k) }
     ensures { IfOk result (λ next. (added : List ℕ) × Keeps mail.old mail.new added × StepsTo (state.Quote k) (b ∷ []) added (Some next)) }
 {
@@ -123,7 +123,7 @@ fn at_quote(k: usize, b: u8, mail: &mut MailPrefix) -> Result<LineState, Memory>
 }
 
 // The next byte after a CR at the start of a line.
-fn at_cr(b: u8, mail: &mut MailPrefix) -> Result<LineState, Memory>
+fn at_cr(b: u8, mail: &mut Prefix) -> Result<LineState, Memory>
     ensures { IfOk result (λ next. (added : List ℕ) × Keeps mail.old mail.new added × StepsTo state.Cr (b ∷ []) added (Some next)) }
 {
     if b == b'\n' {
@@ -168,7 +168,7 @@ fn unchanged(held: &[u8]) -> Step
 }
 
 // Adds to the mail at once all that it has as it is: a step for each line would take most of a reader's time.
-fn inside(held: &[u8], mail: &mut MailPrefix) -> Result<Step, Memory>
+fn inside(held: &[u8], mail: &mut Prefix) -> Result<Step, Memory>
     requires { 0 < length held.now }
     ensures some { IfOk result (λ step. 0 < step.read) }
     ensures within { IfOk result (λ step. step.read ≤ length held.now) }
@@ -209,7 +209,7 @@ impl Step {
 
 /// Reads the next byte of what is held, or all up to the end of a separator line, or as many lines as the mail has as
 /// they are. Takes memory for what is added to the mail.
-pub fn read_on(state: LineState, held: &[u8], mail: &mut MailPrefix) -> Result<Step, Memory>
+pub fn read_on(state: LineState, held: &[u8], mail: &mut Prefix) -> Result<Step, Memory>
     requires state { IsLineState state }
     requires some { 0 < length held.now }
     ensures some { IfOk result (λ step. 0 < step.read) }
@@ -229,7 +229,7 @@ pub fn read_on(state: LineState, held: &[u8], mail: &mut MailPrefix) -> Result<S
 
 /// Adds to the mail, at the end of the mbox, what the state withholds of the last line. An empty line stays withheld,
 /// since it closes the mail.
-pub fn finish(state: LineState, mail: &mut MailPrefix) -> Result<(), Memory>
+pub fn finish(state: LineState, mail: &mut Prefix) -> Result<(), Memory>
     requires { IsLineState state }
     ensures { OnOk result ((added : List ℕ) × Keeps mail.old mail.new added × EndsWith state added) }
 {

@@ -1,8 +1,8 @@
 use Rattle.std.proofs.Common.{◌++◌, ◌∙◌, take, subst, arith}
 use Rattle.std.proofs.lemmas.Result.{err_from_is_err_and}
 use Rattle.mboxrd.specs.LineStates.{StepsTo}
-use Rattle.mboxrd.proofs.Taking.{BufferTakes_more, BufferTakes_on}
-use Rattle.mboxrd.proofs.Progress.{progress_none, progress_more, progress_all, arrives_cut, arrives_end, let_go, clash}
+use Rattle.source_buffer.proofs.Taking.{BufferTakes_more, BufferTakes_on, let_go}
+use Rattle.mboxrd.proofs.Progress.{progress_none, progress_more, progress_all, arrives_cut, arrives_end, clash}
 use Rattle.mboxrd.proofs.separator.read_to_separator.Goals as goal
 
 pub loop-buffer-init : goal.loop-buffer-init

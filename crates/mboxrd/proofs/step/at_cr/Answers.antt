@@ -1,5 +1,5 @@
 use Rattle.std.proofs.Common.{[], ◌∷◌}
-use Rattle.mboxrd.proofs.Prefixes.{Keeps_more, Keeps_none}
+use Rattle.source_buffer.proofs.Prefixes.{Keeps_more, Keeps_none}
 use Rattle.mboxrd.proofs.Stepping.{steps_cr_lf, steps_cr_other}
 use Rattle.mboxrd.proofs.step.at_cr.Goals as goal
 

@@ -1,7 +1,7 @@
 use Rattle.std.proofs.Common.{[], ◌∷◌, ◌++◌, take}
 use Rattle.mboxrd.specs.Remaining.{from_text}
 use Rattle.mboxrd.specs.LineStates.{withheld_line}
-use Rattle.mboxrd.proofs.Prefixes.{Keeps_none, Keeps_three, Keeps_as}
+use Rattle.source_buffer.proofs.Prefixes.{Keeps_none, Keeps_three, Keeps_as}
 use Rattle.mboxrd.proofs.Stepping.{steps_from, steps_cut, steps_from_other}
 use Rattle.mboxrd.proofs.step.at_from.Goals as goal
 

@@ -1,6 +1,6 @@
 use Rattle.std.proofs.Common.{◌≡◌, ◌≢◌, [], ◌∷◌, ◌++◌, take}
 use Rattle.mboxrd.specs.Remaining.{from_text}
-use Rattle.mboxrd.proofs.Prefixes.{Keeps_none, Keeps_three}
+use Rattle.source_buffer.proofs.Prefixes.{Keeps_none, Keeps_three}
 use Rattle.mboxrd.proofs.Stepping.{steps_quote, steps_quote_done, steps_quotes, steps_quote_other}
 use Rattle.mboxrd.proofs.step.at_quote.Goals as goal
 use Rattle.mboxrd.proofs.step.at_quote.Goals.{else-k-eq0-via-then-k-eq0+else-b-eq62, else-k-eq0-via-else-k-eq0}

@@ -1,6 +1,6 @@
 use Rattle.std.proofs.Common.{rules, [], ◌∷◌, ◌++◌, sym, ◌∙◌}
 use Rattle.mboxrd.specs.LineStates.{withheld_line}
-use Rattle.mboxrd.proofs.Prefixes.{Keeps_more, Keeps_none, Keeps_as}
+use Rattle.source_buffer.proofs.Prefixes.{Keeps_more, Keeps_none, Keeps_as}
 use Rattle.mboxrd.proofs.Stepping.{steps_may, steps_start_lf, steps_start_cr, steps_start_quote, steps_start_other}
 use Rattle.mboxrd.proofs.step.at_start.Goals as goal
 

@@ -1,7 +1,7 @@
 use Rattle.std.proofs.Common.{[], ◌∷◌, ◌++◌, take, inl, inr}
 use Rattle.mboxrd.specs.Remaining.{from_text}
 use Rattle.mboxrd.specs.LineStates.{withheld_line}
-use Rattle.mboxrd.proofs.Prefixes.{Keeps_more, Keeps_none, Keeps_as}
+use Rattle.source_buffer.proofs.Prefixes.{Keeps_more, Keeps_none, Keeps_as}
 use Rattle.mboxrd.proofs.Stepping.{from_end, quote_end, separator_end, start_end, inside_end, cr_end}
 use Rattle.mboxrd.proofs.step.finish.Goals as goal
 

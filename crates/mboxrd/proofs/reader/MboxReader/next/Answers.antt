@@ -1,7 +1,10 @@
 use Rattle.std.proofs.Common.{◌≡◌, ◌++◌, true, arith, sym, ◌∙◌}
 use Rattle.std.proofs.lemmas.Result.{err_from_is_err_and}
 use Rattle.mboxrd.specs.declared.taken.Taken.TheVariants as taken
-use Rattle.mboxrd.proofs.Answered.{Takes_more, both_most, answers_long, answers_mail, answer_known, holds_rest_more, at_position}
+use Rattle.source_buffer.proofs.Positions.{at_position}
+use Rattle.source_buffer.proofs.Taking.{BufferTakes_more, holds_rest_more}
+use Rattle.mboxrd.specs.Reading.{buffered}
+use Rattle.mboxrd.proofs.Answered.{both_most, answers_long, answers_mail, answer_known}
 use Rattle.mboxrd.proofs.reader.MboxReader.next.Goals as goal
 
 pub returns-in_err-bytes-clause-took : goal.returns-in_err-bytes-clause-took
@@ -12,7 +15,7 @@ returns-in_err-bytes-clause-took g c =
     let q = p.2 in
     let met : c.reach.new.self.at_separator ≡ true = sym c.in_ok-found.ensures.found ∙ c.if-not-found.false in (
       s.0 ++ t.0,
-      Takes_more _ _ _ c.args.self.now c.reach.new.self c.read_mail.new.self s.0 t.0 s.1 t.1,
+      BufferTakes_more _ _ _ (buffered c.args.self.now) (buffered c.reach.new.self) (buffered c.read_mail.new.self) s.0 t.0 s.1 t.1,
       rw p.1 (λ e. both_most c.args.self.now c.reach.new.self s.0 t.0 met s.2.0 (t.2 (sym q ∙ e))),
     )
 
@@ -22,11 +25,11 @@ returns-then-len-gt-MAX_MAIL_LEN-clause-took g c =
     let t = c.in_ok-bytes.ensures.took in
     let met : c.reach.new.self.at_separator ≡ true = sym c.in_ok-found.ensures.found ∙ c.if-not-found.false in (
       s.0 ++ t.0,
-      Takes_more _ _ _ c.args.self.now c.reach.new.self c.read_mail.new.self s.0 t.0 s.1 t.1,
+      BufferTakes_more _ _ _ (buffered c.args.self.now) (buffered c.reach.new.self) (buffered c.read_mail.new.self) s.0 t.0 s.1 t.1,
       (
         answers_long c.args.self.now c.reach.new.self c.read_mail.new.self s.0 t.0 t.2.0 c.in_ok-bytes.bytes.items met s.2.0 t.2.2 c.in_ok-bytes.ensures.place t.2.1
             (omega (arith, c.if-len-gt-MAX_MAIL_LEN.true, c.len.ensures)),
-        holds_rest_more c.args.self.now c.reach.new.self c.read_mail.new.self s.0 t.0 s.2.1 t.2.3,
+        holds_rest_more c.args.self.now.held c.reach.new.self.held c.read_mail.new.self.held s.0 t.0 s.2.1 t.2.3,
       ),
     )
 
@@ -38,7 +41,7 @@ returns-then-len-gt-MAX_MAIL_LEN-clause-answer g c =
 pub returns-then-len-gt-MAX_MAIL_LEN-clause-position : goal.returns-then-len-gt-MAX_MAIL_LEN-clause-position
 returns-then-len-gt-MAX_MAIL_LEN-clause-position g c =
     let w = returns-then-len-gt-MAX_MAIL_LEN-clause-took g c in
-    at_position (g.S.Source.left c.args.source.now) (g.S.Source.left c.read_mail.new.source) c.args.self.now c.read_mail.new.self w.0 c.in_ok-found.ensures.before c.in_ok-bytes.ensures.fewer w.1 w.2.1
+    at_position (g.S.Source.left c.args.source.now) (g.S.Source.left c.read_mail.new.source) (buffered c.args.self.now) (buffered c.read_mail.new.self) w.0 c.in_ok-found.ensures.before c.in_ok-bytes.ensures.fewer w.1 w.2.1
 
 pub returns-clause-took : goal.returns-clause-took
 returns-clause-took g c =
@@ -46,11 +49,11 @@ returns-clause-took g c =
     let t = c.in_ok-bytes.ensures.took in
     let met : c.reach.new.self.at_separator ≡ true = sym c.in_ok-found.ensures.found ∙ c.if-not-found.false in (
       s.0 ++ t.0,
-      Takes_more _ _ _ c.args.self.now c.reach.new.self c.read_mail.new.self s.0 t.0 s.1 t.1,
+      BufferTakes_more _ _ _ (buffered c.args.self.now) (buffered c.reach.new.self) (buffered c.read_mail.new.self) s.0 t.0 s.1 t.1,
       (
         answers_mail c.args.self.now c.reach.new.self c.read_mail.new.self s.0 t.0 t.2.0 c.in_ok-bytes.bytes met s.2.0 t.2.2 c.in_ok-bytes.ensures.place t.2.1
             (omega (arith, c.if-len-gt-MAX_MAIL_LEN.false, c.len.ensures)),
-        holds_rest_more c.args.self.now c.reach.new.self c.read_mail.new.self s.0 t.0 s.2.1 t.2.3,
+        holds_rest_more c.args.self.now.held c.reach.new.self.held c.read_mail.new.self.held s.0 t.0 s.2.1 t.2.3,
       ),
     )
 
@@ -62,9 +65,9 @@ returns-clause-answer g c =
 pub returns-clause-position : goal.returns-clause-position
 returns-clause-position g c =
     let w = returns-clause-took g c in
-    at_position (g.S.Source.left c.args.source.now) (g.S.Source.left c.read_mail.new.source) c.args.self.now c.read_mail.new.self w.0 c.in_ok-found.ensures.before c.in_ok-bytes.ensures.fewer w.1 w.2.1
+    at_position (g.S.Source.left c.args.source.now) (g.S.Source.left c.read_mail.new.source) (buffered c.args.self.now) (buffered c.read_mail.new.self) w.0 c.in_ok-found.ensures.before c.in_ok-bytes.ensures.fewer w.1 w.2.1
 
 pub returns-then-not-found-clause-position : goal.returns-then-not-found-clause-position
 returns-then-not-found-clause-position g c =
     let s = c.in_ok-found.ensures.took in
-    at_position (g.S.Source.left c.args.source.now) (g.S.Source.left c.reach.new.source) c.args.self.now c.reach.new.self s.0 c.in_ok-found.ensures.before c.in_ok-found.ensures.fewer s.1 s.2.1
+    at_position (g.S.Source.left c.args.source.now) (g.S.Source.left c.reach.new.source) (buffered c.args.self.now) (buffered c.reach.new.self) s.0 c.in_ok-found.ensures.before c.in_ok-found.ensures.fewer s.1 s.2.1

@@ -2,10 +2,9 @@
 ghost use Rattle.std.specs.Prelude.{◌≡◌, ◌<◌, ◌≤◌, ◌++◌, ◌-◌, ℕ, List, [], take, drop, length, vec_len, IfOk, IsErrOf, OnErr, MatchResult, true, false};
 ghost use Rattle.std.specs.Io.KnownBytes.{IsAtEnd, Consumes};
 ghost use Rattle.outside.specs.Causes.{HasCause, Rose};
-ghost use Rattle.mboxrd.specs.Buffered.{Buffered, BufferTakes};
-ghost use Rattle.mboxrd.specs.Answers.{Drops};
+ghost use Rattle.source_buffer.specs.Buffered.{Buffered, BufferTakes, Drops, position};
 
-use crate::fault::BoxFault;
+use crate::fault::BufferFault;
 use kit::Memory;
 use outside::{Failed, Source};
 use std::alloc::Global;
@@ -24,7 +23,8 @@ pub struct Buffer {
 
 impl Model for Buffer {
     ghost use Rattle.std.specs.Prelude.{vec_len, slice_range};
-    ghost use Rattle.mboxrd.specs.Buffered.{Buffered, IsSound};
+    ghost use Rattle.source_buffer.specs.Buffered.{Buffered};
+    ghost use Rattle.source_buffer.specs.Sound.{IsSound};
 
     ghost Value = { Buffered };
 
@@ -52,7 +52,7 @@ impl Buffer {
 
     /// The offset of what is held: how many bytes of the source come before that.
     pub fn position(&self) -> u64
-        ensures { result ≡ self.now.taken - length self.now.held }
+        ensures { result ≡ position self.now }
     {
         self.taken - (self.end - self.start) as u64
     }
@@ -77,12 +77,11 @@ impl Buffer {
     }
 
     // Takes the next chunk where no bytes are held. At the end it is empty.
-    fn refill<S: Source>(&mut self, source: &mut S) -> Result<(), BoxFault>
+    fn refill<S: Source>(&mut self, source: &mut S) -> Result<(), BufferFault>
         requires { self.old.held ≡ [] }
         ensures later { S.faults source.old ≤ S.faults source.new }
-        ensures read { IsErrOf result BoxFault.Read → Rose (S.faults source.old) (S.faults source.new) }
-        ensures endless { IsErrOf result BoxFault.Endless → self.new.taken ≡ self.new.budget }
-        ensures memory { IsErrOf result BoxFault.Memory → ⊥ }
+        ensures read { IsErrOf result BufferFault.Read → Rose (S.faults source.old) (S.faults source.new) }
+        ensures endless { IsErrOf result BufferFault.Endless → self.new.taken ≡ self.new.budget }
         ensures within { self.new.taken ≤ self.new.budget }
         ensures fewer { length self.new.held ≤ self.new.taken }
         ensures took { BufferTakes (S.left source.old) (S.left source.new) self.old self.new self.new.held }
@@ -93,7 +92,7 @@ impl Buffer {
         self.end = 0;
         let room = self.budget - self.taken;
         if room == 0 {
-            return Err(BoxFault::Endless);
+            return Err(BufferFault::Endless);
         }
         let want = if room < self.chunk.len() as u64 {
             room as usize
@@ -108,11 +107,10 @@ impl Buffer {
 
     /// Whether a byte is held or can be taken: none can at the end. Where no bytes are held this takes the
     /// next chunk, so a second call at once takes none. Takes no memory.
-    pub fn has_more<S: Source>(&mut self, source: &mut S) -> Result<bool, BoxFault>
+    pub fn has_more<S: Source>(&mut self, source: &mut S) -> Result<bool, BufferFault>
         ensures later { S.faults source.old ≤ S.faults source.new }
-        ensures read { IsErrOf result BoxFault.Read → Rose (S.faults source.old) (S.faults source.new) }
-        ensures endless { IsErrOf result BoxFault.Endless → self.new.taken ≡ self.new.budget }
-        ensures memory { IsErrOf result BoxFault.Memory → ⊥ }
+        ensures read { IsErrOf result BufferFault.Read → Rose (S.faults source.old) (S.faults source.new) }
+        ensures endless { IsErrOf result BufferFault.Endless → self.new.taken ≡ self.new.budget }
         ensures within { self.new.taken ≤ self.new.budget }
         ensures fewer { length self.new.held ≤ self.new.taken }
         ensures took { (bytes : List ℕ) × BufferTakes (S.left source.old) (S.left source.new) self.old self.new bytes
@@ -128,11 +126,10 @@ impl Buffer {
     }
 
     /// Drops up to `count` bytes, and says how many: fewer only at the end. Takes no memory.
-    pub fn skip<S: Source>(&mut self, source: &mut S, count: u64) -> Result<u64, BoxFault>
+    pub fn skip<S: Source>(&mut self, source: &mut S, count: u64) -> Result<u64, BufferFault>
         ensures later { S.faults source.old ≤ S.faults source.new }
-        ensures read { IsErrOf result BoxFault.Read → Rose (S.faults source.old) (S.faults source.new) }
-        ensures endless { IsErrOf result BoxFault.Endless → self.new.taken ≡ self.new.budget }
-        ensures memory { IsErrOf result BoxFault.Memory → ⊥ }
+        ensures read { IsErrOf result BufferFault.Read → Rose (S.faults source.old) (S.faults source.new) }
+        ensures endless { IsErrOf result BufferFault.Endless → self.new.taken ≡ self.new.budget }
         ensures fewer { length self.old.held ≤ self.old.taken → length self.new.held ≤ self.new.taken }
         ensures took { (bytes : List ℕ) × BufferTakes (S.left source.old) (S.left source.new) self.old self.new bytes
             × (MatchResult result

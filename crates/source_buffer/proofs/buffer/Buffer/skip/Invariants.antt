@@ -1,6 +1,6 @@
 use Rattle.std.proofs.Common.{◌-◌, ◌≤◌, length}
-use Rattle.mboxrd.proofs.Dropped.{Dropped}
-use Rattle.mboxrd.proofs.buffer.Buffer.skip.Given as goal
+use Rattle.source_buffer.proofs.Dropped.{Dropped}
+use Rattle.source_buffer.proofs.buffer.Buffer.skip.Given as goal
 
 abbrev pub invariant-loop-dropped : goal.invariant-loop-dropped
 invariant-loop-dropped g l = record {

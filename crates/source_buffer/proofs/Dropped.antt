@@ -1,10 +1,8 @@
 -- How many bytes were dropped.
 use Rattle.std.proofs.Common.{◌≡◌, ℕ, ◌+◌, ◌≤◌, List, [], ◌++◌, length, take, refl, ap, ◌∙◌, arith, length-append, Option}
 use Rattle.std.proofs.lemmas.List.{append-nil, length-take-le}
-use Rattle.mboxrd.specs.Buffered.{Buffered, BufferTakes}
-use Rattle.mboxrd.specs.Answers.{Drops}
-use Rattle.mboxrd.proofs.Taking.{BufferTakes_more, BufferTakes_none, BufferTakes_on}
-use Rattle.mboxrd.proofs.Progress.{held_more}
+use Rattle.source_buffer.specs.Buffered.{Buffered, BufferTakes, Drops}
+use Rattle.source_buffer.proofs.Taking.{BufferTakes_more, BufferTakes_none, BufferTakes_on, held_more}
 
 pub record Dropped (l m : Option (List ℕ)) (a b : Buffered) (k : ℕ) : Type 0 where
   pub bytes : List ℕ

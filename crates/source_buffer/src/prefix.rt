@@ -1,36 +1,36 @@
-//! The prefix of a mail that comes in chunks.
+//! The prefix of what comes in chunks.
 ghost use Rattle.std.specs.Prelude.{◌≡◌, [], take, OnOk};
-ghost use Rattle.mboxrd.specs.Prefix.{Prefix, Keeps};
+ghost use Rattle.source_buffer.specs.Kept.{Kept, Keeps};
 
 use kit::Memory;
 use std::alloc::Global;
 use std::marker::Model;
 
-/// The first bytes of a mail, at most `limit`. Those after them are not kept.
+/// The first bytes of what comes in chunks, at most `limit`. Those after them are not kept.
 #[derive(Drop)]
-pub struct MailPrefix {
+pub struct Prefix {
     bytes: Vec<u8>,
     limit: usize,
 }
 
-impl Model for MailPrefix {
-    ghost use Rattle.mboxrd.specs.Prefix.{Prefix};
+impl Model for Prefix {
+    ghost use Rattle.source_buffer.specs.Kept.{Kept};
     ghost use Rattle.std.specs.Prelude.{◌≤◌, vec_len};
 
-    ghost Value = { Prefix };
+    ghost Value = { Kept };
 
     ghost view = { λ prefix. record { bytes = prefix.bytes.items; limit = prefix.limit } };
 
     ghost invariant = { λ prefix. vec_len prefix.bytes ≤ prefix.limit };
 }
 
-impl MailPrefix {
+impl Prefix {
     /// No bytes yet, and at most `limit` later. Takes no memory.
-    pub fn new(alloc: Global, limit: usize) -> MailPrefix
+    pub fn new(alloc: Global, limit: usize) -> Prefix
         ensures bytes { result.bytes ≡ [] }
         ensures limit { result.limit ≡ limit }
     {
-        MailPrefix {
+        Prefix {
             bytes: Vec::new(alloc),
             limit,
         }

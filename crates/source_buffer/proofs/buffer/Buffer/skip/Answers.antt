@@ -1,8 +1,8 @@
 use Rattle.std.proofs.Common.{rules, arith, ◌∙◌}
 use Rattle.std.proofs.lemmas.Result.{err_from_is_err_and}
-use Rattle.mboxrd.proofs.Dropped.{dropped_none, dropped_more, dropped_all, dropped_end}
-use Rattle.mboxrd.proofs.buffer.Buffer.skip.Goals as goal
-use Rattle.mboxrd.proofs.buffer.Buffer.skip.Goals.{then-count-dropped, else-count-dropped}
+use Rattle.source_buffer.proofs.Dropped.{dropped_none, dropped_more, dropped_all, dropped_end}
+use Rattle.source_buffer.proofs.buffer.Buffer.skip.Goals as goal
+use Rattle.source_buffer.proofs.buffer.Buffer.skip.Goals.{then-count-dropped, else-count-dropped}
 
 pub loop-dropped-init : goal.loop-dropped-init
 loop-dropped-init g c = record { later = omega arith; within = omega arith; fewer = λ h. h; dropped = dropped_none _ c.args.self.now }

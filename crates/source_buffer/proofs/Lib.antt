@@ -1,0 +1,4 @@
+pub mod Taking
+pub mod Positions
+pub mod Dropped
+pub mod Prefixes

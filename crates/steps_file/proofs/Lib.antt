@@ -1,0 +1,7 @@
+pub mod EndedLines
+pub mod GrownLines
+pub mod LongLines
+pub mod Passed
+pub mod Answered
+pub mod MomentBounds
+mod Rows

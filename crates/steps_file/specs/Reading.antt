@@ -1,0 +1,29 @@
+-- What contracts see of a reader of a steps file.
+use Rattle.std.specs.Prelude.{ℕ, Bool, List, Option}
+use Rattle.source_buffer.specs.Buffered as buffer
+
+-- `held` are the bytes that it took of its source and has not passed yet, and `place` is the offset after the last ended
+-- line that was given. `taken` counts the bytes that it took so far, and `budget` those that it may take in all.
+-- `refused` says whether a call has failed.
+pub record Reading : Type 0 where
+  pub held : List ℕ
+  pub place : ℕ
+  pub taken : ℕ
+  pub budget : ℕ
+  pub refused : Bool
+
+-- the same as its buffer would be seen
+abbrev pub buffered : Reading → buffer.Buffered
+buffered r = record { held = r.held; taken = r.taken; budget = r.budget }
+
+-- the offset of what it holds: how many bytes come before that
+abbrev pub position : Reading → ℕ
+position r = buffer.position (buffered r)
+
+-- what is held, followed by what the source has left, is the file from the reader's position on
+abbrev pub IsAt : List ℕ → List ℕ → Reading → Type 0
+IsAt file left r = buffer.IsAt file left (buffered r)
+
+-- these bytes were taken of what a source had left
+abbrev pub Takes : Option (List ℕ) → Option (List ℕ) → Reading → Reading → List ℕ → Type 0
+Takes left_before left_after before after bytes = buffer.BufferTakes left_before left_after (buffered before) (buffered after) bytes
