@@ -1,0 +1,5 @@
+pub mod Loop
+pub mod Texts
+pub mod FieldLaws
+pub mod CardLaws
+mod Rows

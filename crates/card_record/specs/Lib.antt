@@ -1,0 +1,4 @@
+-- What public clauses cite.
+pub mod Reading
+pub mod Cards
+pub mod Spelling

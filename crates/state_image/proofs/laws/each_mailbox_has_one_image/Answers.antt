@@ -1,0 +1,11 @@
+use Rattle.state_image.proofs.ImageLaws.{image_again, image_taken, image_once}
+use Rattle.state_image.proofs.laws.each_mailbox_has_one_image.Goals as goal
+
+pub returns-clause-read : goal.returns-clause-read
+returns-clause-read c = image_again
+
+pub returns-clause-spelled : goal.returns-clause-spelled
+returns-clause-spelled c = image_taken
+
+pub returns-clause-once : goal.returns-clause-once
+returns-clause-once c = image_once

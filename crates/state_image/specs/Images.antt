@@ -1,0 +1,195 @@
+-- Images: how a mailbox and a position are spelled together, and how bytes are read as an image.
+use Rattle.std.specs.Prelude.{◌≡◌, ℕ, ◌+◌, ◌-◌, ◌^◌, ◌<◌, ◌≤◌, Bool, true, false, ◌&&◌, nat_le, nat_lt, nat_eq, ◌==◌, codes, List, [], ◌++◌, length, map, drop, fold, sum_by, Option, Some, None, option_map, Result, Ok, Err, IsTrue, if◌then◌else◌}
+use Rattle.std.specs.Int.{w32, w64}
+use Rattle.std.specs.List.{starts_with}
+use Rattle.kit.specs.Addresses.{is_addr}
+use Rattle.card_type.specs.Records as records
+use Rattle.card_type.specs.declared.card.Card.{Card}
+use Rattle.mailbox_model.specs.declared.change.Fault.{Fault}
+use Rattle.mailbox_model.specs.declared.item.Held.{Held}
+use Rattle.mailbox_model.specs.declared.item.Held.TheVariants as is_held
+use Rattle.mailbox_model.specs.declared.item.Item.{Item}
+use Rattle.mailbox_model.specs.Mailbox.{Mailbox, Entry, item_of, card_at, max_entries, max_total_weight, weights, IsMailbox}
+use Rattle.box_state.specs.Kept.{Kept}
+use Rattle.card_record.specs.Reading.{◌>>=◌, Read, byte_at, number_at, ruled, block_of, moment_at, opt_of, times_of}
+use Rattle.card_record.specs.Cards.{record_at}
+use Rattle.state_image.specs.declared.fault.ImageFault.{ImageFault}
+use Rattle.state_image.specs.declared.fault.ImageFault.TheVariants as faults
+use Rattle.state_image.specs.declared.position.Position.{Position}
+use Rattle.state_image.specs.declared.read.Head.{Head}
+use Rattle.state_image.specs.declared.entries.Entry as read
+use Rattle.state_image.specs.Faults.{code_of, fault_of}
+use Rattle.state_image.specs.Changes.{or_malformed}
+
+-- the name of an image, which tells its version
+abbrev pub name_1 : List ℕ
+name_1 = codes "CHATSIM1"
+
+-- ---- spelling
+
+-- 0 and a card, or the code of a fault
+abbrev pub mail_spelled : Result Card Fault → List ℕ
+mail_spelled (Ok card) = records.b8 0 ++ records.record_of card
+mail_spelled (Err fault) = records.b8 (code_of fault)
+
+abbrev pub entry_spelled : Entry → List ℕ
+entry_spelled entry =
+    records.b32 entry.uid ++ records.b64 entry.arrival ++ records.opt records.b64 entry.seen ++ mail_spelled entry.read
+
+abbrev pub position_spelled : Position → List ℕ
+position_spelled p = records.b64 p.count ++ records.b64 p.mbox ++ records.b64 p.steps ++ records.b64 p.lines
+
+abbrev pub image : Mailbox → Position → List ℕ
+image m p =
+    name_1 ++ records.block m.me ++ position_spelled p ++ records.b64 m.now ++ records.b32 m.next_uid
+    ++ records.list entry_spelled m.entries
+
+-- a position that an image has: the numbers of a position have 64 bits
+pub record IsPosition (p : Position) : Type 0 where
+  pub some : 1 ≤ p.count
+  pub few : p.count ≤ 2 ^ 62
+  pub mbox : p.mbox < 2 ^ 64
+  pub steps : p.steps < 2 ^ 64
+  pub lines : p.lines ≤ p.steps
+
+-- a mailbox and a position that have an image
+pub record HasImage (m : Mailbox) (p : Position) : Type 0 where
+  pub me : IsTrue (is_addr m.me)
+  pub rules : IsMailbox m
+  pub position : IsPosition p
+
+-- ---- reading
+
+abbrev pub count_at : List ℕ → Read ℕ
+count_at bytes = ruled (λ n. nat_le 1 n && nat_le n (2 ^ 62)) (number_at w64) bytes
+
+-- there are no more lines than bytes
+abbrev pub lines_at : ℕ → List ℕ → Read ℕ
+lines_at steps bytes = ruled (λ n. nat_le n steps) (number_at w64) bytes
+
+unfoldable pub position_at : List ℕ → Read Position
+position_at bytes = do
+  count ← count_at bytes
+  mbox ← number_at w64 count.1
+  steps ← number_at w64 mbox.1
+  lines ← lines_at steps.0 steps.1
+  Ok (record { count = count.0; mbox = mbox.0; steps = steps.0; lines = lines.0 }, lines.1)
+
+abbrev pub next_uid_at : List ℕ → Read ℕ
+next_uid_at bytes = ruled (λ n. nat_le 1 n) (number_at w32) bytes
+
+-- all before the items
+unfoldable pub head_at : List ℕ → Read Head
+head_at bytes = do
+  me ← block_of is_addr bytes
+  position ← position_at me.1
+  moment ← moment_at position.1
+  next_uid ← next_uid_at moment.1
+  Ok (record { me = me.0; position = position.0; moment = moment.0; next_uid = next_uid.0 }, next_uid.1)
+
+-- a card with which the weights stay within their limit, where those before it weigh so much
+abbrev pub card_after : ℕ → List ℕ → Read Card
+card_after weight bytes = ruled (λ card. nat_le (weight + records.weight card) max_total_weight) record_at bytes
+
+unfoldable pub mail_after : ℕ → List ℕ → Read (Result Card Fault)
+mail_after weight bytes = do
+  code ← byte_at bytes
+  if code.0 == 0 then (card_after weight code.1 >>= λ x. Ok (Ok x.0, x.1))
+      else or_malformed (length bytes) (option_map Err (fault_of code.0)) code.1
+
+abbrev pub uid_between : ℕ → ℕ → List ℕ → Read ℕ
+uid_between last next bytes = ruled (λ n. nat_lt last n && nat_lt n next) (number_at w32) bytes
+
+abbrev pub arrival_by : ℕ → List ℕ → Read ℕ
+arrival_by now bytes = ruled (λ n. nat_le n now) (number_at w64) bytes
+
+abbrev pub seen_between : ℕ → ℕ → List ℕ → Read ℕ
+seen_between arrival now bytes = ruled (λ n. nat_le arrival n && nat_le n now) (number_at w64) bytes
+
+-- an item with its card, where the last uid before it and the weights before it are these
+unfoldable pub entry_after : ℕ → ℕ → ℕ → ℕ → List ℕ → Read Entry
+entry_after now next last weight bytes = do
+  uid ← uid_between last next bytes
+  arrival ← arrival_by now uid.1
+  seen ← opt_of (seen_between arrival.0 now) arrival.1
+  mail ← mail_after weight seen.1
+  Ok (record { uid = uid.0; arrival = arrival.0; seen = seen.0; read = mail.0 }, mail.1)
+
+-- the last uid of some entries, and 0 where there is none
+abbrev pub last_uid : List Entry → ℕ
+last_uid entries = fold (λ _ entry. entry.uid) 0 entries
+
+abbrev pub entry_at : ℕ → ℕ → List Entry → List ℕ → Read Entry
+entry_at now next front bytes = entry_after now next (last_uid front) (weights front) bytes
+
+abbrev pub item_count_at : List ℕ → Read ℕ
+item_count_at bytes = ruled (λ n. nat_le n max_entries) (number_at w32) bytes
+
+unfoldable pub entries_at : ℕ → ℕ → List ℕ → Read (List Entry)
+entries_at now next bytes = do
+  count ← item_count_at bytes
+  times_of (entry_at now next) [] count.0 count.1
+
+-- all after the name; nothing may follow it
+unfoldable pub body_at : List ℕ → Read (Head × List Entry)
+body_at bytes = do
+  head ← head_at bytes
+  entries ← entries_at head.0.moment head.0.next_uid head.1
+  if length entries.1 == 0 then Ok ((head.0, entries.0), entries.1) else Err (length entries.1)
+
+abbrev pub mailbox_by : Head → List Entry → Mailbox
+mailbox_by head entries = record { me = head.me; now = head.moment; next_uid = head.next_uid; entries = entries }
+
+-- a reading of the last bytes among so many, by the offset of the first field that is malformed
+abbrev pub from_body : ℕ → Read (Head × List Entry) → Result (Mailbox × Position) ImageFault
+from_body size (Ok x) = Ok (mailbox_by x.0.0 x.0.1, x.0.0.position)
+from_body size (Err left) = Err (faults.Malformed (size - left))
+
+-- the mailbox and the position whose image these bytes are, or why they are none
+abbrev pub image_of : List ℕ → Result (Mailbox × Position) ImageFault
+image_of bytes = if starts_with nat_eq bytes name_1 then from_body (length bytes) (body_at (drop 8 bytes)) else Err faults.Version
+
+-- What is answered is what is read, unless memory ran out.
+abbrev pub GivesImage : Result (Kept × Position) ImageFault → Result (Mailbox × Position) ImageFault → Type 0
+GivesImage (Ok x) read = read ≡ Ok (x.0.mailbox, x.1)
+GivesImage (Err (faults.Malformed at)) read = read ≡ Err (faults.Malformed at)
+GivesImage (Err faults.Version) read = read ≡ Err faults.Version
+GivesImage (Err faults.Memory) read = Unit {0}
+
+-- ---- the cost of writing
+
+abbrev pub is_card : Held → Bool
+is_card is_held.Card = true
+is_card (is_held.Fault fault) = false
+
+-- how many cards an item has
+abbrev pub cards_of : Item → ℕ
+cards_of item = if is_card item.held then 1 else 0
+
+abbrev pub cards_in : Mailbox → ℕ
+cards_in m = sum_by cards_of (map item_of m.entries)
+
+-- ---- what private functions cite
+
+-- an entry of the code
+abbrev pub entry_in : read.Entry → Entry
+entry_in e = record { uid = e.uid; arrival = e.arrival; seen = e.seen; read = e.read }
+
+-- an item as it is written, with its card
+abbrev pub held_spelled : Held → Option Card → List ℕ
+held_spelled is_held.Card (Some card) = records.b8 0 ++ records.record_of card
+held_spelled is_held.Card None = []
+held_spelled (is_held.Fault fault) card = records.b8 (code_of fault)
+
+abbrev pub numbers_spelled : Item → List ℕ
+numbers_spelled item = records.b32 item.uid ++ records.b64 item.arrival ++ records.opt records.b64 item.seen
+
+abbrev pub item_spelled : Mailbox → Item → List ℕ
+item_spelled m item = numbers_spelled item ++ held_spelled item.held (card_at m item.uid)
+
+-- what is between the name and the first item
+abbrev pub names_spelled : Mailbox → Position → List ℕ
+names_spelled m p = records.block m.me ++ position_spelled p
+
+abbrev pub counts_spelled : Mailbox → List ℕ
+counts_spelled m = records.b64 m.now ++ records.b32 m.next_uid ++ records.b32 (length m.entries)

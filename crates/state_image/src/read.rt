@@ -1,0 +1,158 @@
+//! Images, read.
+ghost use Rattle.std.specs.Prelude.{◌≡◌, IfErr, IfOk};
+ghost use Rattle.mailbox_model.specs.Mailbox.{IsMailbox};
+ghost use Rattle.box_state.specs.Kept.{AreBeside, entries_of, mailbox_of};
+ghost use Rattle.box_state.specs.declared.ready.Ready.TheVariants.{Unready};
+ghost use Rattle.card_record.specs.Reading.{Moves};
+ghost use Rattle.state_image.specs.declared.fault.ImageFault.TheVariants.{Memory as out_of_memory};
+ghost use Rattle.state_image.specs.Images.{image, image_of, count_at, lines_at, position_at, next_uid_at, head_at, body_at, mailbox_by, GivesImage, IsPosition};
+
+use crate::entries::read_entries;
+use crate::fault::ImageFault;
+use crate::offset::{fault_in, rest_from};
+use crate::position::Position;
+use box_state::{Item, Mailbox};
+use card_record::{Field, ReadFault, Rest, read_moment};
+use card_type::Card;
+use kit::Addr;
+use std::alloc::Global;
+
+/// The name of an image, which tells its version.
+pub const NAME: &[u8] = b"CHATSIM1";
+
+/// The greatest number of changes: 2^62.
+const MAX_COUNT: u64 = 4_611_686_018_427_387_904;
+
+/// What an image has before the items.
+#[derive(Drop)]
+pub struct Head {
+    me: Addr,
+    position: Position,
+    moment: u64,
+    next_uid: u32,
+}
+
+/// Takes the number of changes.
+fn read_count(rest: &mut Rest<'_>) -> Result<u64, ReadFault>
+    ensures { Moves (λ n. n) result (count_at rest.old) rest.new }
+{
+    let left = rest.len();
+    let count = rest.b64()?;
+    if count < 1 || MAX_COUNT < count {
+        return Err(ReadFault::Malformed(left));
+    }
+    Ok(count)
+}
+
+/// Takes a number of lines, of which there are no more than bytes.
+fn read_lines(steps: u64, rest: &mut Rest<'_>) -> Result<u64, ReadFault>
+    ensures { Moves (λ n. n) result (lines_at steps rest.old) rest.new }
+{
+    let left = rest.len();
+    let lines = rest.b64()?;
+    if steps < lines {
+        return Err(ReadFault::Malformed(left));
+    }
+    Ok(lines)
+}
+
+/// Takes a position.
+#[tactic(auto, unfolding(crate::specs::Images::position_at))]
+fn read_position(rest: &mut Rest<'_>) -> Result<Position, ReadFault>
+    ensures { Moves (λ p. p) result (position_at rest.old) rest.new }
+{
+    let count = read_count(rest)?;
+    let mbox = rest.b64()?;
+    let steps = rest.b64()?;
+    let lines = read_lines(steps, rest)?;
+    Ok(Position {
+        count,
+        mbox,
+        steps,
+        lines,
+    })
+}
+
+/// Takes the next uid.
+fn read_next_uid(rest: &mut Rest<'_>) -> Result<u32, ReadFault>
+    ensures { Moves (λ n. n) result (next_uid_at rest.old) rest.new }
+{
+    let left = rest.len();
+    let next_uid = rest.b32()?;
+    if next_uid < 1 {
+        return Err(ReadFault::Malformed(left));
+    }
+    Ok(next_uid)
+}
+
+/// Takes all before the items.
+#[tactic(auto, unfolding(crate::specs::Images::head_at))]
+fn read_head(alloc: Global, rest: &mut Rest<'_>) -> Result<Head, ReadFault>
+    ensures { Moves (λ head. head) result (head_at rest.old) rest.new }
+{
+    let me = <Addr as Field>::read(alloc, rest)?;
+    let position = read_position(rest)?;
+    let moment = read_moment(rest)?;
+    let next_uid = read_next_uid(rest)?;
+    Ok(Head {
+        me,
+        position,
+        moment,
+        next_uid,
+    })
+}
+
+/// Takes all after the name.
+#[tactic(auto, unfolding(crate::specs::Images::body_at))]
+fn read_body(
+    alloc: Global,
+    rest: &mut Rest<'_>,
+) -> Result<(Head, Vec<(Item, Option<Card>)>), ReadFault>
+    ensures body { Moves (λ body. (body.0, entries_of body.1.items)) result (body_at rest.old) rest.new }
+    ensures beside { IfOk result (λ body. AreBeside body.1.items) }
+{
+    let head = read_head(alloc, rest)?;
+    let items = read_entries(alloc, head.moment, head.next_uid, rest)?;
+    if rest.len() > 0 {
+        return Err(ReadFault::Malformed(rest.len()));
+    }
+    Ok((head, items))
+}
+
+/// The mailbox and the position that were read.
+fn restored(
+    alloc: Global,
+    head: Head,
+    items: Vec<(Item, Option<Card>)>,
+) -> Result<(Mailbox, Position), ImageFault>
+    requires beside { AreBeside items.items }
+    requires rules { IsMailbox (mailbox_by head (entries_of items.items)) }
+    ensures mailbox { IfOk result (λ read. read.0.mailbox ≡ mailbox_by head (entries_of items.items)) }
+    ensures ready { IfOk result (λ read. read.0.ready ≡ Unready) }
+    ensures position { IfOk result (λ read. read.1 ≡ head.position) }
+    ensures memory { IfErr result (λ fault. fault ≡ out_of_memory) }
+{
+    match Mailbox::restore(alloc, head.me, head.moment, head.next_uid, items) {
+        Ok(mailbox) => Ok((mailbox, head.position)),
+        Err(_) => Err(ImageFault::Memory),
+    }
+}
+
+/// The mailbox and the position whose image the bytes are. `Version` exactly where they do not begin with the name of an
+/// image; `Malformed` exactly where they do, and a field is short or breaks its rule or something follows the last item,
+/// with the offset where the first such field begins, or what follows. The mailbox is ready for no arrival. Takes memory.
+pub fn read_image(alloc: Global, bytes: &[u8]) -> Result<(Mailbox, Position), ImageFault>
+    ensures gives { GivesImage result (image_of bytes.now) }
+    ensures ready { IfOk result (λ read. read.0.ready ≡ Unready) }
+    ensures spelled { IfOk result (λ read. bytes.now ≡ image read.0.mailbox read.1) }
+    ensures position { IfOk result (λ read. IsPosition read.1) }
+{
+    if !bytes.starts_with(NAME) {
+        return Err(ImageFault::Version);
+    }
+    let mut rest = rest_from(bytes, NAME.len());
+    match read_body(alloc, &mut rest) {
+        Ok((head, items)) => restored(alloc, head, items),
+        Err(fault) => Err(fault_in(bytes.len(), fault)),
+    }
+}
