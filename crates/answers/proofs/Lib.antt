@@ -1,0 +1,4 @@
+-- Lemmas of this crate.
+pub mod ChatAnswers
+pub mod KeyLaws
+pub mod NamedChats

@@ -1,0 +1,28 @@
+use Rattle.std.proofs.lemmas.Result.{err_from_is_err_and}
+use Rattle.std.proofs.Common.{Err, ap, subst}
+use Rattle.mailbox_model.specs.Mailbox.{IsMailbox}
+use Rattle.answers.proofs.ChatAnswers.{its_key, no_answer, no_key, not_asked, not_printed, printed}
+use Rattle.answers.proofs.print.print_the_chat.Goals as goal
+
+pub returns-in_default-clause-puts : goal.returns-in_default-clause-puts
+returns-in_default-clause-puts g c =
+    let rules = subst IsMailbox c.mailbox.ensures c.me-me.ensures.rules in
+    no_answer c.args.engine.now.mailbox c.args.text.now _ _ rules (no_key c.in_ok-key.field-0 c.bytes.result.now c.args.text.now c.in_default.is c.bytes.ensures.same c.in_ok-key.ensures.none)
+
+pub returns-in_err-page-clause-puts : goal.returns-in_err-page-clause-puts
+returns-in_err-page-clause-puts g c =
+    let p = err_from_is_err_and c.from_residual-in_err-page.result c.from_residual-in_err-page.ensures.1 in
+    let key = its_key c.in_ok-key.field-0 c.in-Some.key c.bytes.result.now c.args.text.now c.in-Some.is c.bytes.ensures.same c.in_ok-key.ensures.text in
+    rw (p.1, p.2) (not_asked c.args.engine.now c.in-Some.key c.args.text.now _ _ c.in_err-page.field-0.0 key c.in_err-page.ensures.cause)
+
+pub returns-in_err-print_chat-clause-puts : goal.returns-in_err-print_chat-clause-puts
+returns-in_err-print_chat-clause-puts g c =
+    let p = err_from_is_err_and c.from_residual-in_err-print_chat.result c.from_residual-in_err-print_chat.ensures.1 in
+    let key = its_key c.in_ok-key.field-0 c.in-Some.key c.bytes.result.now c.args.text.now c.in-Some.is c.bytes.ensures.same c.in_ok-key.ensures.text in
+    rw (p.1, p.2) (not_printed c.args.engine.now.mailbox c.in-Some.key c.args.text.now c.in_ok-page.page _ _ c.in_err-print_chat.field-0.0 key c.in_ok-page.ensures.page
+    (λ e. c.in_err-print_chat.ensures.write (ap Err e)))
+
+pub returns-clause-puts : goal.returns-clause-puts
+returns-clause-puts g c =
+    let key = its_key c.in_ok-key.field-0 c.in-Some.key c.bytes.result.now c.args.text.now c.in-Some.is c.bytes.ensures.same c.in_ok-key.ensures.text in
+    printed c.args.engine.now.mailbox c.in-Some.key c.args.text.now c.in_ok-page.page _ _ key c.in_ok-page.ensures.page c.in_ok-print_chat.ensures.ok
