@@ -1,0 +1,330 @@
+-- A turn makes the next change of the files, so what lies ahead before it lies ahead after it.
+use Rattle.std.proofs.Common.{◌≡◌, ◌+◌, ℕ, Bool, true, false, List, [], ◌∷◌, ◌++◌, length, Option, Some, None, Result, Ok, Err, ◌≤◌, ◌<◌, ◌⊎◌, inl, inr, refl, sym, ap, subst, ◌∙◌, if◌then◌else◌, nat_lt}
+use Rattle.std.proofs.lemmas.Bool.{le-ltb, lt-ltb}
+use Rattle.kit.specs.Lines.{content}
+use Rattle.mboxrd.specs.Answers.{IsNext, max_mail_len}
+use Rattle.mboxrd.specs.declared.taken.Taken.{Taken}
+use Rattle.mboxrd.specs.declared.taken.Taken.TheVariants as taken
+use Rattle.mboxrd.specs.Mails.{Mail, mails_from}
+use Rattle.mboxrd.specs.Reading.{Reading, position as mbox_position}
+use Rattle.card_type.specs.declared.card.Card.{Card}
+use Rattle.chat_card.specs.Cards.{card_of}
+use Rattle.chat_card.specs.declared.fault.CardFault.{CardFault}
+use Rattle.mailbox_model.specs.declared.change.Fault.TheVariants as is_fault
+use Rattle.mailbox_model.specs.declared.change.Change.{Change}
+use Rattle.mailbox_model.specs.declared.change.Change.TheVariants.{ArriveFault, Expunge, Seen, At}
+use Rattle.mailbox_model.specs.Mailbox.{Mailbox, after}
+use Rattle.std.specs.Io.KnownBytes.{Consumes}
+use Rattle.source_buffer.specs.Known.{IfKnown}
+use Rattle.steps_file.specs.Answers.{IsNext as IsNextLine}
+use Rattle.steps_file.specs.Lines.{ended_lines}
+use Rattle.steps_file.specs.Reading.{Reading as StepsReading}
+use Rattle.steps_file.specs.declared.taken.Taken.{Taken as TakenLine}
+use Rattle.steps_file.specs.declared.taken.Taken.TheVariants as taken_line
+use Rattle.steps_file.specs.Steps.{step_of}
+use Rattle.steps_file.specs.declared.step.Step.{Step}
+use Rattle.steps_file.specs.declared.step.Step.TheVariants as step
+use Rattle.follower.specs.declared.fault.RunFault.{RunFault}
+use Rattle.follower.specs.declared.fault.RunFault.TheVariants as fault
+use Rattle.state_image.specs.declared.position.Position.{Position}
+use Rattle.follower.specs.Arrivals.{arrival_of, arrival_taken, arrival_with}
+use Rattle.follower.specs.Feed.{Fed, Feed, State, after_fed, at_line, at_mail, counted, fed_first, last_fed, line_fed, lines_fed, mail_fed, mails_fed}
+use Rattle.follower.specs.Following.{ArrivesNext, Following, Makes, Stops, ahead, lines_ahead, mails_ahead}
+use Rattle.follower.specs.Reached.{Reached, Full, BadStep, is_refused, reached}
+
+-- ---- one change
+
+pub made : (s : State) (f : Fed) (rest : Feed) → is_refused s f.change ≡ false → reached s (fed_first f rest) ≡ reached (after_fed s f) rest
+made s f rest room = rw room refl
+
+pub no_room : (s : State) (f : Fed) (rest : Feed) → is_refused s f.change ≡ true → (reached s (fed_first f rest)).stop ≡ Some Full
+no_room s f rest full = rw full refl
+
+-- an arrival takes the next uid
+arrives : (m : Mailbox) (uid : ℕ) (mail : Mail) → (after m (arrival_of uid mail)).next_uid ≡ m.next_uid + 1
+arrives m uid mail = by (nat_lt max_mail_len (length mail.bytes)) (card_of uid mail.bytes)
+  where
+    by : (b : Bool) (r : Result Card CardFault) → (after m (if b then ArriveFault is_fault.TooLong else arrival_with r)).next_uid ≡ m.next_uid + 1
+    by true r = refl
+    by false (Ok card) = refl
+    by false (Err why) = refl
+
+-- ---- a mail
+
+mail_made : (s : State) (mail : Mail) (p : Position) → State
+mail_made s mail p = after_fed s (mail_fed s.mailbox.next_uid p mail)
+
+pub mail_goes : (s t : State) (mail : Mail) (mails others : List Mail) (change : Change) (place : ℕ) → change ≡ arrival_of s.mailbox.next_uid mail → place ≡ mail.end → others ≡ mails
+    → is_refused s change ≡ false → t ≡ after_fed s (record { change = change; position = record (counted s.position) { mbox = place } })
+    → reached s (mails_fed s.mailbox.next_uid s.position (mail ∷ mails)) ≡ reached t (mails_fed t.mailbox.next_uid t.position others)
+mail_goes s t mail mails others change place c e o room is =
+    let f = mail_fed s.mailbox.next_uid s.position mail in
+    let here : t ≡ after_fed s f = is ∙ ap (λ c. after_fed s (record { change = c; position = record (counted s.position) { mbox = place } })) c
+    ∙ ap (λ place. after_fed s (record { change = arrival_of s.mailbox.next_uid mail; position = record (counted s.position) { mbox = place } })) e in
+    let rest : (uid : ℕ) → Feed = λ uid. mails_fed uid f.position mails in
+    made s f (rest (s.mailbox.next_uid + 1)) (ap (is_refused s) (sym c) ∙ room)
+    ∙ ap (λ uid. reached (after_fed s f) (rest uid)) (sym (arrives s.mailbox s.mailbox.next_uid mail))
+    ∙ ap (λ ms. reached (after_fed s f) (mails_fed (after_fed s f).mailbox.next_uid (after_fed s f).position ms)) (sym o)
+    ∙ ap (λ t. reached t (mails_fed t.mailbox.next_uid t.position others)) (sym here)
+
+pub mail_full : (s : State) (mail : Mail) (mails : List Mail) (change : Change) → change ≡ arrival_of s.mailbox.next_uid mail → is_refused s change ≡ true
+    → (reached s (mails_fed s.mailbox.next_uid s.position (mail ∷ mails))).stop ≡ Some Full
+mail_full s mail mails change c full =
+    no_room s (mail_fed s.mailbox.next_uid s.position mail) (mails_fed (s.mailbox.next_uid + 1) (at_mail (counted s.position) mail) mails) (ap (is_refused s) (sym c) ∙ full)
+
+-- ---- a line
+
+abbrev later : Option ℕ → List (List ℕ) → ℕ → Position → List Mail → Feed
+later last lines = λ uid p mails. lines_fed last uid p mails lines
+
+-- of a line whose step is known
+step_goes : (last : Option ℕ) (s : State) (raw : List ℕ) (lines : List (List ℕ)) (st : Step) (mails others : List Mail) (change : Change) (q : Position)
+    → Makes st s.mailbox.next_uid (counted (at_line s.position raw)) mails (change, q) others → is_refused s change ≡ false
+    → let t = after_fed s (record { change = change; position = q }) in
+    reached s (line_fed (Some st) s.mailbox.next_uid s.position raw mails (later last lines)) ≡ reached t (lines_fed last t.mailbox.next_uid t.position others lines)
+step_goes last s raw lines step.Next [] others change q m room = absurd m
+step_goes last s raw lines step.Next (mail ∷ mails) others change q m room =
+    let uid = s.mailbox.next_uid in
+    let f = mail_fed uid (at_line s.position raw) mail in
+    let c : change ≡ f.change = ap (λ x. x.0) m.0 in
+    let p : q ≡ f.position = ap (λ x. x.1) m.0 in
+    made s f (later last lines (uid + 1) f.position mails) (ap (is_refused s) (sym c) ∙ room)
+    ∙ ap (λ uid. reached (after_fed s f) (later last lines uid f.position mails)) (sym (arrives s.mailbox uid mail))
+    ∙ ap (λ ms. reached (after_fed s f) (later last lines (after_fed s f).mailbox.next_uid f.position ms)) (sym m.1)
+    ∙ ap (λ x. let t = after_fed s (record { change = x.0; position = x.1 }) in reached t (lines_fed last t.mailbox.next_uid t.position others lines)) (sym m.0)
+step_goes last s raw lines (step.Expunge n) mails others change q m room =
+    let f : Fed = record { change = Expunge n; position = counted (at_line s.position raw) } in
+    made s f (later last lines s.mailbox.next_uid f.position mails) (ap (λ x. is_refused s x.0) (sym m.0) ∙ room)
+    ∙ ap (λ ms. reached (after_fed s f) (later last lines s.mailbox.next_uid f.position ms)) (sym m.1)
+    ∙ ap (λ x. let t = after_fed s (record { change = x.0; position = x.1 }) in reached t (lines_fed last t.mailbox.next_uid t.position others lines)) (sym m.0)
+step_goes last s raw lines (step.Seen n) mails others change q m room =
+    let f : Fed = record { change = Seen n; position = counted (at_line s.position raw) } in
+    made s f (later last lines s.mailbox.next_uid f.position mails) (ap (λ x. is_refused s x.0) (sym m.0) ∙ room)
+    ∙ ap (λ ms. reached (after_fed s f) (later last lines s.mailbox.next_uid f.position ms)) (sym m.1)
+    ∙ ap (λ x. let t = after_fed s (record { change = x.0; position = x.1 }) in reached t (lines_fed last t.mailbox.next_uid t.position others lines)) (sym m.0)
+step_goes last s raw lines (step.At n) mails others change q m room =
+    let f : Fed = record { change = At n; position = counted (at_line s.position raw) } in
+    made s f (later last lines s.mailbox.next_uid f.position mails) (ap (λ x. is_refused s x.0) (sym m.0) ∙ room)
+    ∙ ap (λ ms. reached (after_fed s f) (later last lines s.mailbox.next_uid f.position ms)) (sym m.1)
+    ∙ ap (λ x. let t = after_fed s (record { change = x.0; position = x.1 }) in reached t (lines_fed last t.mailbox.next_uid t.position others lines)) (sym m.0)
+
+step_full : (last : Option ℕ) (s : State) (raw : List ℕ) (lines : List (List ℕ)) (st : Step) (mails others : List Mail) (change : Change) (q : Position)
+    → Makes st s.mailbox.next_uid (counted (at_line s.position raw)) mails (change, q) others → is_refused s change ≡ true
+    → (reached s (line_fed (Some st) s.mailbox.next_uid s.position raw mails (later last lines))).stop ≡ Some Full
+step_full last s raw lines step.Next [] others change q m full = absurd m
+step_full last s raw lines step.Next (mail ∷ mails) others change q m full =
+    let f = mail_fed s.mailbox.next_uid (at_line s.position raw) mail in
+    no_room s f (later last lines (s.mailbox.next_uid + 1) f.position mails) (ap (λ x. is_refused s x.0) (sym m.0) ∙ full)
+step_full last s raw lines (step.Expunge n) mails others change q m full =
+    let p = counted (at_line s.position raw) in
+    no_room s (record { change = Expunge n; position = p }) (later last lines s.mailbox.next_uid p mails) (ap (λ x. is_refused s x.0) (sym m.0) ∙ full)
+step_full last s raw lines (step.Seen n) mails others change q m full =
+    let p = counted (at_line s.position raw) in
+    no_room s (record { change = Seen n; position = p }) (later last lines s.mailbox.next_uid p mails) (ap (λ x. is_refused s x.0) (sym m.0) ∙ full)
+step_full last s raw lines (step.At n) mails others change q m full =
+    let p = counted (at_line s.position raw) in
+    no_room s (record { change = At n; position = p }) (later last lines s.mailbox.next_uid p mails) (ap (λ x. is_refused s x.0) (sym m.0) ∙ full)
+
+-- the lines, of which the first is what it is
+abbrev by_step : Option ℕ → State → List ℕ → List (List ℕ) → List Mail → Option Step → Reached
+by_step last s raw lines mails o = reached s (line_fed o s.mailbox.next_uid s.position raw mails (later last lines))
+
+pub line_goes : (last : Option ℕ) (s t : State) (raw : List ℕ) (lines next : List (List ℕ)) (st : Step) (mails others : List Mail) (change : Change) (p q : Position)
+    → step_of (content raw) ≡ Some st → next ≡ lines → p ≡ counted (at_line s.position raw) → Makes st s.mailbox.next_uid p mails (change, q) others
+    → is_refused s change ≡ false → t ≡ after_fed s (record { change = change; position = q })
+    → reached s (lines_fed last s.mailbox.next_uid s.position mails (raw ∷ lines)) ≡ reached t (lines_fed last t.mailbox.next_uid t.position others next)
+line_goes last s t raw lines next st mails others change p q is n place m room e =
+    ap (by_step last s raw lines mails) is
+    ∙ step_goes last s raw lines st mails others change q (subst (λ p. Makes st s.mailbox.next_uid p mails (change, q) others) place m) room
+    ∙ ap (λ ls. let t = after_fed s (record { change = change; position = q }) in reached t (lines_fed last t.mailbox.next_uid t.position others ls)) (sym n)
+    ∙ ap (λ t. reached t (lines_fed last t.mailbox.next_uid t.position others next)) (sym e)
+
+pub line_full : (last : Option ℕ) (s : State) (raw : List ℕ) (lines : List (List ℕ)) (st : Step) (mails others : List Mail) (change : Change) (p q : Position)
+    → step_of (content raw) ≡ Some st → p ≡ counted (at_line s.position raw) → Makes st s.mailbox.next_uid p mails (change, q) others → is_refused s change ≡ true
+    → (reached s (lines_fed last s.mailbox.next_uid s.position mails (raw ∷ lines))).stop ≡ Some Full
+line_full last s raw lines st mails others change p q is place m full =
+    ap (λ o. (by_step last s raw lines mails o).stop) is
+    ∙ step_full last s raw lines st mails others change q (subst (λ p. Makes st s.mailbox.next_uid p mails (change, q) others) place m) full
+
+pub no_step : (last : Option ℕ) (s : State) (raw : List ℕ) (lines : List (List ℕ)) (mails : List Mail) → step_of (content raw) ≡ None
+    → (reached s (lines_fed last s.mailbox.next_uid s.position mails (raw ∷ lines))).stop ≡ Some (BadStep (s.position.lines + 1))
+no_step last s raw lines mails is = ap (λ o. (by_step last s raw lines mails o).stop) is
+
+pub no_mail : (last : Option ℕ) (s : State) (raw : List ℕ) (lines : List (List ℕ)) (mails : List Mail) → step_of (content raw) ≡ Some step.Next → mails ≡ []
+    → (reached s (lines_fed last s.mailbox.next_uid s.position mails (raw ∷ lines))).stop ≡ Some (BadStep (s.position.lines + 1))
+no_mail last s raw lines mails is none =
+    ap (λ ms. (reached s (lines_fed last s.mailbox.next_uid s.position ms (raw ∷ lines))).stop) none ∙ ap (λ o. (by_step last s raw lines [] o).stop) is
+
+-- ---- the reader's answer
+
+pub if_known : (l m : Option (List ℕ)) (P Q : List ℕ → List ℕ → Type 0) → ((b a : List ℕ) → P b a → Q b a) → IfKnown l m P → IfKnown l m Q
+if_known None m P Q f h = tt
+if_known (Some b) None P Q f h = absurd h
+if_known (Some b) (Some a) P Q f h = f b a h
+
+short_arrival : (uid : ℕ) (mail : Mail) → length mail.bytes ≤ max_mail_len → arrival_of uid mail ≡ arrival_with (card_of uid mail.bytes)
+short_arrival uid mail short = ap (λ b. if b then ArriveFault is_fault.TooLong else arrival_with (card_of uid mail.bytes)) (le-ltb max_mail_len (length mail.bytes) short)
+
+long_arrival : (uid : ℕ) (mail : Mail) → max_mail_len < length mail.bytes → arrival_of uid mail ≡ ArriveFault is_fault.TooLong
+long_arrival uid mail long = ap (λ b. if b then ArriveFault is_fault.TooLong else arrival_with (card_of uid mail.bytes)) (lt-ltb max_mail_len (length mail.bytes) long)
+
+-- the arrival of what the reader of the mbox gives
+pub arrives_next : (old new : Following) (mails others : List Mail) (t : Taken) (change : Option Change) → change ≡ arrival_taken old.state.mailbox.next_uid t
+    → IsNext mails t old.mbox new.mbox others → ArrivesNext old mails change new others
+arrives_next old new mails others t change is h = subst (λ change. ArrivesNext old mails change new others) (sym is) (by mails t h)
+  where
+    by : (mails : List Mail) (t : Taken) → IsNext mails t old.mbox new.mbox others → ArrivesNext old mails (arrival_taken old.state.mailbox.next_uid t) new others
+    by [] (taken.Mail v) h = absurd h
+    by [] (taken.TooLong) h = absurd h
+    by [] (taken.End) h = h.0
+    by (mail ∷ mails) (taken.End) h = absurd h
+    by (mail ∷ mails) (taken.Mail v) h =
+        (ap (λ bytes. arrival_with (card_of old.state.mailbox.next_uid bytes)) h.0 ∙ sym (short_arrival old.state.mailbox.next_uid mail h.1), h.2, h.4)
+    by (mail ∷ mails) (taken.TooLong) h = (sym (long_arrival old.state.mailbox.next_uid mail h.0), h.1, h.3)
+
+-- over what the follower has ahead
+pub next_known : (l m : Option (List ℕ)) (old new : Following) (r : Reading) (t : Taken) (change : Option Change) → r ≡ old.mbox → change ≡ arrival_taken old.state.mailbox.next_uid t
+    → IfKnown l m (λ before after. IsNext (mails_from (mbox_position r) (r.held ++ before)) t r new.mbox (mails_ahead new after))
+    → IfKnown l m (λ before after. ArrivesNext old (mails_ahead old before) change new (mails_ahead new after))
+next_known l m old new r t change e is k = if_known l m _ _ (λ before after. arrives_next old new (mails_ahead old before) (mails_ahead new after) t change is)
+    (subst (λ (r : Reading). IfKnown l m (λ before after. IsNext (mails_from (mbox_position r) (r.held ++ before)) t r new.mbox (mails_ahead new after))) e k)
+
+pub lines_known : (k n : Option (List ℕ)) (r s now : StepsReading) (a : TakenLine) → r ≡ s
+    → IfKnown k n (λ before after. IsNextLine (ended_lines (r.held ++ before)) a r now (ended_lines (now.held ++ after)))
+    → IfKnown k n (λ before after. IsNextLine (ended_lines (s.held ++ before)) a s now (ended_lines (now.held ++ after)))
+lines_known k n r s now a e h =
+    subst (λ (r : StepsReading). IfKnown k n (λ before after. IsNextLine (ended_lines (r.held ++ before)) a r now (ended_lines (now.held ++ after)))) e h
+
+-- what holds whatever the bytes are
+pub if_taken : (l m : Option (List ℕ)) (bytes : List ℕ) (P : List ℕ → List ℕ → Type 0) → Consumes l m bytes → ((b a : List ℕ) → P b a) → IfKnown l m P
+if_taken None m bytes P took f = tt
+if_taken (Some b) None bytes P took f = absurd took
+if_taken (Some b) (Some a) bytes P took f = f b a
+
+-- a source that is left as it is
+pub if_same : (l : Option (List ℕ)) (P : List ℕ → List ℕ → Type 0) → ((b : List ℕ) → P b b) → IfKnown l l P
+if_same None P f = tt
+if_same (Some b) P f = f b
+
+pub none_left : (old new : Following) (mails others : List Mail) → ArrivesNext old mails None new others → mails ≡ []
+none_left old new [] others h = refl
+none_left old new (mail ∷ mails) others h = absurd h
+
+pub makes_next : (old new : Following) (p : Position) (mails others : List Mail) (change : Change) → ArrivesNext old mails (Some change) new others
+    → Makes step.Next old.state.mailbox.next_uid p mails (change, record p { mbox = new.mbox.place }) others
+makes_next old new p [] others change h = absurd h
+makes_next old new p (mail ∷ mails) others change h =
+    (ap (λ c. (c, record p { mbox = new.mbox.place })) h.0 ∙ ap (λ place. (arrival_of old.state.mailbox.next_uid mail, record p { mbox = place })) h.1, h.2)
+
+-- the step that takes the next mail
+pub next_makes : (l m : Option (List ℕ)) (old mid : Following) (st : Step) (p q : Position) (o : Option Change) (change : Change) → st ≡ step.Next → o ≡ Some change
+    → IfKnown l m (λ before after. ArrivesNext old (mails_ahead old before) o mid (mails_ahead mid after)) → q ≡ record p { mbox = mid.mbox.place }
+    → IfKnown l m (λ before after. Makes st old.state.mailbox.next_uid p (mails_ahead old before) (change, q) (mails_ahead mid after))
+next_makes l m old mid st p q o change next some known place = if_known l m _ _ (λ before after h.
+    let a : ArrivesNext old (mails_ahead old before) (Some change) mid (mails_ahead mid after) = subst (λ o. ArrivesNext old (mails_ahead old before) o mid (mails_ahead mid after)) some h in
+    subst (λ st. Makes st old.state.mailbox.next_uid p (mails_ahead old before) (change, q) (mails_ahead mid after)) (sym next)
+    (subst (λ q. Makes step.Next old.state.mailbox.next_uid p (mails_ahead old before) (change, q) (mails_ahead mid after)) (sym place)
+    (makes_next old mid p (mails_ahead old before) (mails_ahead mid after) change a))) known
+
+-- ---- a turn of a mail
+
+pub mail_end : (old new : Following) (mails others : List Mail) → ArrivesNext old mails None new others
+    → reached old.state (mails_fed old.state.mailbox.next_uid old.state.position mails) ≡ reached old.state (last_fed None old.state.position)
+mail_end old new mails others h = ap (λ ms. reached old.state (mails_fed old.state.mailbox.next_uid old.state.position ms)) (none_left old new mails others h)
+
+pub mail_applied : (old mid : Following) (t : State) (mails others : List Mail) (change : Change) → ArrivesNext old mails (Some change) mid others → is_refused old.state change ≡ false
+    → t ≡ after_fed old.state (record { change = change; position = record (counted old.state.position) { mbox = mid.mbox.place } })
+    → reached old.state (mails_fed old.state.mailbox.next_uid old.state.position mails) ≡ reached t (mails_fed t.mailbox.next_uid t.position others)
+mail_applied old mid t [] others change h room is = absurd h
+mail_applied old mid t (mail ∷ mails) others change h room is = mail_goes old.state t mail mails others change mid.mbox.place h.0 h.1 h.2 room is
+
+pub mail_refused : (old mid : Following) (mails others : List Mail) (change : Change) → ArrivesNext old mails (Some change) mid others → is_refused old.state change ≡ true
+    → (reached old.state (mails_fed old.state.mailbox.next_uid old.state.position mails)).stop ≡ Some Full
+mail_refused old mid [] others change h full = absurd h
+mail_refused old mid (mail ∷ mails) others change h full = mail_full old.state mail mails change h.0 full
+
+-- the same between follower and source, over what the calls of a turn say
+module _ (l m : Option (List ℕ)) (old mid : Following) (o : Option Change) (change : Change) (rest : mid ≡ record old { mbox = mid.mbox }) (some : o ≡ Some change)
+    (next : IfKnown l m (λ before after. ArrivesNext old (mails_ahead old before) o mid (mails_ahead mid after))) where
+  same_state : mid.state ≡ old.state
+  same_state = ap (λ (f : Following). f.state) rest
+
+  arrived : (P : List ℕ → List ℕ → Type 0) → ((before after : List ℕ) → ArrivesNext old (mails_ahead old before) (Some change) mid (mails_ahead mid after) → P before after) → IfKnown l m P
+  arrived P f = if_known l m _ P (λ before after h. f before after (subst (λ o. ArrivesNext old (mails_ahead old before) o mid (mails_ahead mid after)) some h)) next
+
+  pub mail_turns : (new : Following) (q : Position) → is_refused mid.state change ≡ false → new.state ≡ after_fed mid.state (record { change = change; position = q })
+      → q ≡ record (counted mid.state.position) { mbox = mid.mbox.place } → new.mbox ≡ mid.mbox
+      → IfKnown l m (λ before after. ahead None old before None ≡ ahead None new after None)
+  mail_turns new q room is place same = arrived _ (λ before after h.
+      let t : new.state ≡ after_fed old.state (record { change = change; position = record (counted old.state.position) { mbox = mid.mbox.place } }) =
+      is ∙ ap (λ q. after_fed mid.state (record { change = change; position = q })) place
+      ∙ ap (λ (s : State). after_fed s (record { change = change; position = record (counted s.position) { mbox = mid.mbox.place } })) same_state in
+      mail_applied old mid new.state (mails_ahead old before) (mails_ahead mid after) change h (ap (λ s. is_refused s change) (sym same_state) ∙ room) t
+      ∙ ap (λ (r : Reading). reached new.state (mails_fed new.state.mailbox.next_uid new.state.position (mails_from (mbox_position r) (r.held ++ after)))) (sym same))
+
+  pub mail_stops : (why : RunFault) → (why ≡ fault.Full) ⊎ (why ≡ fault.Memory) → (why ≡ fault.Full → is_refused mid.state change ≡ true)
+      → IfKnown l m (λ before after. Stops why (ahead None old before None))
+  mail_stops why (inl full) refused = arrived _ (λ before after h.
+      subst (λ why. Stops why (ahead None old before None)) (sym full)
+      (mail_refused old mid (mails_ahead old before) (mails_ahead mid after) change h (ap (λ s. is_refused s change) (sym same_state) ∙ refused full)))
+  mail_stops why (inr memory) refused = arrived _ (λ before after h. subst (λ why. Stops why (ahead None old before None)) (sym memory) tt)
+
+-- the same of a turn of a line
+module _ (l m k n : Option (List ℕ)) (old here mid : Following) (a : TakenLine) (st : Step) (p : Position) (made : Change × Position)
+    (lines : here ≡ record old { lines = here.lines }) (rest : mid ≡ record here { mbox = mid.mbox }) (stands : old.state.position.steps ≡ old.lines.place)
+    (is : a ≡ taken_line.Step st) (next : IfKnown k n (λ before after. IsNextLine (lines_ahead old before) a old.lines here.lines (lines_ahead here after)))
+    (place : p ≡ record (counted old.state.position) { steps = here.lines.place; lines = old.state.position.lines + 1 })
+    (makes : IfKnown l m (λ before after. Makes st here.state.mailbox.next_uid p (mails_ahead here before) made (mails_ahead mid after))) where
+  here_state : here.state ≡ old.state
+  here_state = ap (λ (f : Following). f.state) lines
+
+  mid_state : mid.state ≡ old.state
+  mid_state = ap (λ (f : Following). f.state) rest ∙ here_state
+
+  -- what the step makes of the mails that the follower has ahead
+  old_makes : (before after : List ℕ) → Makes st here.state.mailbox.next_uid p (mails_ahead here before) made (mails_ahead mid after)
+      → Makes st old.state.mailbox.next_uid p (mails_ahead old before) made (mails_ahead mid after)
+  old_makes before after h = subst (λ (f : Following). Makes st f.state.mailbox.next_uid p (mails_ahead f before) made (mails_ahead mid after)) lines h
+
+  at_raw : (raw : List ℕ) → here.lines.place ≡ old.lines.place + length raw → p ≡ counted (at_line old.state.position raw)
+  at_raw raw e = place ∙ ap (λ place. record (counted old.state.position) { steps = place; lines = old.state.position.lines + 1 }) (e ∙ ap (λ place. place + length raw) (sym stands))
+
+  stepped : (R : List ℕ → List ℕ → List ℕ → List ℕ → Type 0) → ((mails_before mails_after before after : List ℕ)
+      → Makes st old.state.mailbox.next_uid p (mails_ahead old mails_before) made (mails_ahead mid mails_after)
+      → IsNextLine (lines_ahead old before) (taken_line.Step st) old.lines here.lines (lines_ahead here after) → R mails_before mails_after before after)
+      → IfKnown l m (λ mails_before mails_after. IfKnown k n (λ before after. R mails_before mails_after before after))
+  stepped R f = if_known l m _ _ (λ mails_before mails_after h.
+      if_known k n _ (R mails_before mails_after) (λ before after g. f mails_before mails_after before after (old_makes mails_before mails_after h)
+      (subst (λ a. IsNextLine (lines_ahead old before) a old.lines here.lines (lines_ahead here after)) is g)) next) makes
+
+  pub line_turns : (new : Following) (last : Option ℕ) → is_refused mid.state made.0 ≡ false → new.state ≡ after_fed mid.state (record { change = made.0; position = made.1 })
+      → new.mbox ≡ mid.mbox → new.lines ≡ here.lines
+      → IfKnown l m (λ mails_before mails_after. IfKnown k n (λ before after. ahead last old mails_before (Some before) ≡ ahead last new mails_after (Some after)))
+  line_turns new last room state same_mbox same_lines = stepped _ (λ mails_before mails_after before after h g.
+      by before after mails_before mails_after h (lines_ahead old before) g
+      ∙ ap (λ (r : StepsReading). reached new.state (lines_fed last new.state.mailbox.next_uid new.state.position (mails_ahead mid mails_after) (ended_lines (r.held ++ after)))) (sym same_lines)
+      ∙ ap (λ (r : Reading). reached new.state (lines_fed last new.state.mailbox.next_uid new.state.position (mails_from (mbox_position r) (r.held ++ mails_after)) (lines_ahead new after))) (sym same_mbox))
+    where
+      by : (before after mails_before mails_after : List ℕ) → Makes st old.state.mailbox.next_uid p (mails_ahead old mails_before) made (mails_ahead mid mails_after)
+          → (ls : List (List ℕ)) → IsNextLine ls (taken_line.Step st) old.lines here.lines (lines_ahead here after)
+          → reached old.state (lines_fed last old.state.mailbox.next_uid old.state.position (mails_ahead old mails_before) ls)
+          ≡ reached new.state (lines_fed last new.state.mailbox.next_uid new.state.position (mails_ahead mid mails_after) (lines_ahead here after))
+      by before after mails_before mails_after h [] g = absurd g
+      by before after mails_before mails_after h (raw ∷ ls) g =
+          line_goes last old.state new.state raw ls (lines_ahead here after) st (mails_ahead old mails_before) (mails_ahead mid mails_after) made.0 p made.1
+          g.0 g.2 (at_raw raw g.1) h (ap (λ s. is_refused s made.0) (sym mid_state) ∙ room) (state ∙ ap (λ s. after_fed s (record { change = made.0; position = made.1 })) mid_state)
+
+  pub line_stops : (last : Option ℕ) (why : RunFault) → (why ≡ fault.Full) ⊎ (why ≡ fault.Memory) → (why ≡ fault.Full → is_refused mid.state made.0 ≡ true)
+      → IfKnown l m (λ mails_before mails_after. IfKnown k n (λ before after. Stops why (ahead last old mails_before (Some before))))
+  line_stops last why (inr memory) refused = stepped _ (λ mails_before mails_after before after h g.
+      subst (λ why. Stops why (ahead last old mails_before (Some before))) (sym memory) tt)
+  line_stops last why (inl full) refused = stepped _ (λ mails_before mails_after before after h g.
+      subst (λ why. Stops why (ahead last old mails_before (Some before))) (sym full) (by before after mails_before mails_after h (lines_ahead old before) g))
+    where
+      by : (before after mails_before mails_after : List ℕ) → Makes st old.state.mailbox.next_uid p (mails_ahead old mails_before) made (mails_ahead mid mails_after)
+          → (ls : List (List ℕ)) → IsNextLine ls (taken_line.Step st) old.lines here.lines (lines_ahead here after)
+          → (reached old.state (lines_fed last old.state.mailbox.next_uid old.state.position (mails_ahead old mails_before) ls)).stop ≡ Some Full
+      by before after mails_before mails_after h [] g = absurd g
+      by before after mails_before mails_after h (raw ∷ ls) g =
+          line_full last old.state raw ls st (mails_ahead old mails_before) (mails_ahead mid mails_after) made.0 p made.1
+          g.0 (at_raw raw g.1) h (ap (λ s. is_refused s made.0) (sym mid_state) ∙ refused full)

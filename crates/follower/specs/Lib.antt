@@ -1,0 +1,5 @@
+-- What public clauses cite.
+pub mod Arrivals
+pub mod Feed
+pub mod Reached
+pub mod Following

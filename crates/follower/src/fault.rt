@@ -1,0 +1,72 @@
+//! Why the files are not followed further.
+ghost use Rattle.std.specs.Prelude.{◌≡◌};
+ghost use Rattle.follower.specs.Following.{box_fault, lines_fault};
+ghost use Rattle.follower.specs.declared.fault.RunFault.TheVariants as fault;
+
+use kit::Memory;
+use mboxrd::BoxFault;
+use source_buffer::BufferFault;
+use thiserror::Error;
+
+/// An input of a run.
+#[derive(Clone, Copy, Debug, PartialEq, Eq, Hash, Error)]
+pub enum Input {
+    /// The mbox.
+    #[error("mbox")]
+    Mbox,
+    /// The steps file.
+    #[error("steps")]
+    Steps,
+}
+
+/// Why the files were not followed to their end.
+#[derive(Clone, Copy, Debug, PartialEq, Eq, Hash, Error)]
+pub enum RunFault {
+    /// The input failed.
+    #[error("read fault: {0}")]
+    Read(Input),
+    /// As many bytes of the input were taken as may be, and one more was needed.
+    #[error("endless {0}")]
+    Endless(Input),
+    /// The line of the steps file with this number, from 1, is no step, or takes the next mail where there is none.
+    #[error("steps line {0}")]
+    Steps(u64),
+    /// The mailbox has no place for an arrival, or 2^62 changes were made.
+    #[error("mailbox full")]
+    Full,
+    /// Memory ran out.
+    #[error("out of memory")]
+    Memory,
+}
+
+impl From<Memory> for RunFault {
+    ghost from_gives = { λ _ why. why ≡ fault.Memory };
+
+    fn from(_memory: Memory) -> RunFault {
+        RunFault::Memory
+    }
+}
+
+impl From<BoxFault> for RunFault {
+    ghost from_gives = { λ fault why. why ≡ box_fault fault };
+
+    fn from(fault: BoxFault) -> RunFault {
+        match fault {
+            BoxFault::Read => RunFault::Read(Input::Mbox),
+            BoxFault::Endless => RunFault::Endless(Input::Mbox),
+            BoxFault::Memory => RunFault::Memory,
+        }
+    }
+}
+
+/// The reader of the steps file answers so.
+impl From<BufferFault> for RunFault {
+    ghost from_gives = { λ fault why. why ≡ lines_fault fault };
+
+    fn from(fault: BufferFault) -> RunFault {
+        match fault {
+            BufferFault::Read => RunFault::Read(Input::Steps),
+            BufferFault::Endless => RunFault::Endless(Input::Steps),
+        }
+    }
+}
