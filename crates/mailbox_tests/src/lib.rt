@@ -25,3 +25,5 @@ mod printed;
 mod rosters;
 #[cfg(test)]
 mod rows;
+#[cfg(test)]
+mod split_sink;

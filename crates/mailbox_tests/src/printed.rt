@@ -3,6 +3,7 @@ ghost use Rattle.std.specs.Prelude.{All, IfOk, IfSome};
 ghost use Rattle.chat_print.specs.Moments.{HasMoment, IsMoment, ReaderHasMoment, RowHasMoments};
 
 use crate::made::{addr, id, key, text};
+use crate::split_sink::SplitSink;
 use card_type::{Attachment, Payload, Update};
 use chat_print::{print_chat, print_contacts, print_list, print_updates};
 use kit::{Addr, LAST_MOMENT, Text};
@@ -603,10 +604,7 @@ fn contacts_are_printed(rt: HostRuntime) -> Result<(), Fail> {
     let rows = two_contacts(alloc)?;
     let mut out = sink(alloc, 2)?;
     print_contacts(alloc, &rows, &mut out)?;
-    assert_eq!(rt;
-        out.bytes(),
-        b"ann@x.org | Ann\nbob@x.org | B b\n".as_slice()
-    );
+    assert_eq!(rt; str::from_utf8(out.bytes())?, PRINTED_CONTACTS);
     Ok(())
 }
 
@@ -623,8 +621,44 @@ fn updates_are_printed(rt: HostRuntime) -> Result<(), Fail> {
     Ok(())
 }
 
+/// Two rows of contacts as they are printed.
+const PRINTED_CONTACTS: &str = "ann@x.org | Ann\nbob@x.org | B b\n";
+
+/// Prints two rows of contacts on a sink that fails at its first byte (1) or at its last one (2). What that answers, and
+/// the bytes that were put.
+fn put_to_a_fault(alloc: Global, fails: u64) -> Result<(Result<(), PrintFault>, String), Fail> {
+    let rows = two_contacts(alloc)?;
+    let mut out = SplitSink {
+        sink: sink(alloc, fails)?,
+    };
+    let answer = print_contacts(alloc, &rows, &mut out);
+    Ok((
+        answer,
+        String::from_str(alloc, str::from_utf8(out.sink.bytes())?)?,
+    ))
+}
+
 #[test]
-fn a_sink_that_fails_is_a_write_fault(rt: HostRuntime) -> Result<(), Fail> {
+fn a_sink_that_fails_at_its_first_byte_is_a_write_fault(rt: HostRuntime) -> Result<(), Fail> {
+    let (answer, put) = put_to_a_fault(rt.alloc(), 1)?;
+    assert_eq!(rt; answer, Err(PrintFault::Write));
+    assert_eq!(rt; put.as_str(), "");
+    Ok(())
+}
+
+#[test]
+fn a_sink_that_fails_at_its_last_byte_is_a_write_fault(rt: HostRuntime) -> Result<(), Fail> {
+    let (answer, put) = put_to_a_fault(rt.alloc(), 2)?;
+    assert_eq!(rt; answer, Err(PrintFault::Write));
+    assert_eq!(rt;
+        put.as_str(),
+        &PRINTED_CONTACTS[..PRINTED_CONTACTS.len() - 1]
+    );
+    Ok(())
+}
+
+#[test]
+fn a_page_is_put_again_where_a_put_failed(rt: HostRuntime) -> Result<(), Fail> {
     let alloc = rt.alloc();
     let rows = two_contacts(alloc)?;
     let mut out = sink(alloc, 1)?;
@@ -632,12 +666,8 @@ fn a_sink_that_fails_is_a_write_fault(rt: HostRuntime) -> Result<(), Fail> {
         print_contacts(alloc, &rows, &mut out),
         Err(PrintFault::Write)
     );
-    assert_eq!(rt; out.bytes(), b"".as_slice());
     // Only its first put fails.
     print_contacts(alloc, &rows, &mut out)?;
-    assert_eq!(rt;
-        out.bytes(),
-        b"ann@x.org | Ann\nbob@x.org | B b\n".as_slice()
-    );
+    assert_eq!(rt; str::from_utf8(out.bytes())?, PRINTED_CONTACTS);
     Ok(())
 }

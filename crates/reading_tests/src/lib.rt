@@ -20,6 +20,8 @@ mod parts;
 #[cfg(test)]
 mod receipts;
 #[cfg(test)]
+mod steps;
+#[cfg(test)]
 mod transfer;
 #[cfg(test)]
 mod updates;

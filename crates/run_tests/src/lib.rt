@@ -1,8 +1,14 @@
-//! Tests of the devices and of whole runs. It has no code of its own.
+//! Tests of the devices, of images and of whole runs. It has no code of its own.
 #![tactic(auto)]
 
 #[cfg(test)]
 mod devices;
+#[cfg(test)]
+mod disk_model;
+#[cfg(test)]
+mod images;
+#[cfg(test)]
+mod real_files;
 #[cfg(test)]
 mod runs;
 #[cfg(test)]
