@@ -74,7 +74,7 @@ one_at_most a p r bytes within u =
     omega (arith, ap length e)
 
 pub takes_buffered : (l m : Option (List ℕ)) (a b : Buffered) (p q : ℕ) (r v : Bool) (s t : Bool) (bytes : List ℕ) → BufferTakes l m a b bytes → Takes l m (reading a p s r) (reading b q t v) bytes
-takes_buffered l m a b p q r v s t bytes h = record { left = h.left; taken = h.taken; budget = h.budget }
+takes_buffered l m a b p q r v s t bytes h = record { left = h.left; taken = h.taken; budget = h.budget; within = h.within }
 
 prefix_on : (h p passed held from prefix : List ℕ) → h ++ p ≡ passed ++ held → passed ≡ prefix ++ from → h ++ p ≡ prefix ++ (from ++ held)
 prefix_on h p passed held from prefix met e = met ∙ ap (λ z. z ++ held) e ∙ append_assoc prefix from held

@@ -4,16 +4,22 @@ use Rattle.std.proofs.KnownBytes.{Consumes-nil, Consumes-trans}
 use Rattle.source_buffer.specs.Buffered.{Buffered, BufferTakes, HoldsRest}
 
 pub BufferTakes_none : (l : Option (List ℕ)) (a b : Buffered) → b.taken ≡ a.taken → b.budget ≡ a.budget → BufferTakes l l a b []
-BufferTakes_none l a b t e = record { left = Consumes-nil l; taken = omega (arith, t); budget = e }
+BufferTakes_none l a b t e = record { left = Consumes-nil l; taken = omega (arith, t); budget = e; within = λ fits. omega (arith, fits, t, e) }
 
 pub BufferTakes_on : (l m : Option (List ℕ)) (a b c : Buffered) (p : List ℕ) → BufferTakes l m a b p → c.taken ≡ b.taken → c.budget ≡ b.budget → BufferTakes l m a c p
-BufferTakes_on l m a b c p h t e = record { left = h.left; taken = omega (arith, h.taken, t); budget = e ∙ h.budget }
+BufferTakes_on l m a b c p h t e = record {
+  left = h.left;
+  taken = omega (arith, h.taken, t);
+  budget = e ∙ h.budget;
+  within = λ fits. omega (arith, h.within fits, t, e);
+}
 
 pub BufferTakes_more : (l m n : Option (List ℕ)) (a b c : Buffered) (p q : List ℕ) → BufferTakes l m a b p → BufferTakes m n b c q → BufferTakes l n a c (p ++ q)
 BufferTakes_more l m n a b c p q h k = record {
   left = Consumes-trans l m n p q h.left k.left;
   taken = omega (arith, h.taken, k.taken, length-append p q);
   budget = k.budget ∙ h.budget;
+  within = λ fits. k.within (h.within fits);
 }
 
 -- bytes of the source are held, and so many of them are dropped

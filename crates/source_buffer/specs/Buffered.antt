@@ -1,5 +1,5 @@
 -- The bytes of a source that a buffer holds.
-use Rattle.std.specs.Prelude.{◌≡◌, ℕ, ◌+◌, ◌-◌, List, ◌++◌, length, drop, Option}
+use Rattle.std.specs.Prelude.{◌≡◌, ◌≤◌, ℕ, ◌+◌, ◌-◌, List, ◌++◌, length, drop, Option}
 use Rattle.std.specs.Io.KnownBytes.{Consumes}
 
 -- the bytes that are held, how many were taken so far, and how many may be in all
@@ -16,11 +16,12 @@ position b = b.taken - length b.held
 abbrev pub IsAt : List ℕ → List ℕ → Buffered → Type 0
 IsAt file left b = b.held ++ left ≡ drop (position b) file
 
--- these bytes were taken of what a source had left
+-- these bytes were taken of what a source had left, and no more than the budget
 pub record BufferTakes (left_before left_after : Option (List ℕ)) (before after : Buffered) (bytes : List ℕ) : Type 0 where
   pub left : Consumes left_before left_after bytes
   pub taken : after.taken ≡ before.taken + length bytes
   pub budget : after.budget ≡ before.budget
+  pub within : before.taken ≤ before.budget → after.taken ≤ after.budget
 
 -- so many of the bytes that were held and taken were dropped, and those after them are held
 abbrev pub Drops : List ℕ → List ℕ → ℕ → List ℕ → Type 0
