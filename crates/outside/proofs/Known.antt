@@ -42,3 +42,11 @@ known_as o n P R f p =
       forth = λ s is. let a = p.forth s is in record { places = a.places; is = a.is; holds = f s a.places is a.holds };
       back = λ z is. let a = p.back z is in record { places = a.places; is = a.is; holds = f a.places z a.is a.holds };
     }
+
+-- and what is known of the contents after it
+pub known_with : (o n : Option Places) (P : Places → Places → Type 0) (Q : Places → Type 0) → KnownThen o n P → WhereKnown n Q → KnownThen o n (λ x y. P x y × Q y)
+known_with o n P Q p q =
+    record {
+      forth = λ s is. let a = p.forth s is in record { places = a.places; is = a.is; holds = (a.holds, q a.places a.is) };
+      back = λ z is. let a = p.back z is in record { places = a.places; is = a.is; holds = (a.holds, q z is) };
+    }

@@ -1,7 +1,7 @@
 //! A call of a shelf and the sync after it.
 ghost use Rattle.std.specs.Prelude.{◌≡◌, ◌≤◌, length, take, OnOk};
 ghost use Rattle.outside.specs.Causes.{HasCause};
-ghost use Rattle.outside.specs.Places.{content, Changes};
+ghost use Rattle.outside.specs.Places.{content, Changes, OthersStay};
 ghost use Rattle.outside.specs.Crash.{Holds, Torn, PartlyCut, RisesUpTo};
 ghost use Rattle.outside.specs.Moments.{LeavesOnly, Reached, WhereKnown, KnownThen, IsSettled};
 
@@ -22,6 +22,7 @@ pub fn write_and_sync<H: Shelf>(
     ensures holds { OnOk result (KnownThen (H.seen shelf.old) (H.seen shelf.new) (Changes place (Holds at bytes.now))) }
     ensures settled { OnOk result (WhereKnown (H.seen shelf.new) (λ places.
         IsSettled place places (H.may_leave shelf.new))) }
+    ensures others { KnownThen (H.seen shelf.old) (H.seen shelf.new) (OthersStay place) }
     ensures written { RisesUpTo (length bytes.now) (H.written shelf.old) (H.written shelf.new) }
     ensures cause { HasCause (H.faults shelf.old) (H.faults shelf.new) result }
 {
@@ -41,6 +42,7 @@ pub fn cut_and_sync<H: Shelf>(shelf: &mut H, place: Place, size: u64) -> Result<
         (Changes place (λ old new. new ≡ take size old))) }
     ensures settled { OnOk result (WhereKnown (H.seen shelf.new) (λ places.
         IsSettled place places (H.may_leave shelf.new))) }
+    ensures others { KnownThen (H.seen shelf.old) (H.seen shelf.new) (OthersStay place) }
     ensures written { H.written shelf.new ≡ H.written shelf.old }
     ensures cause { HasCause (H.faults shelf.old) (H.faults shelf.new) result }
 {
