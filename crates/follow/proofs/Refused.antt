@@ -1,57 +1,204 @@
 -- What is left of a run that was refused.
-use Rattle.std.proofs.Common.{◌≡◌, ◌⊎◌, ℕ, List, Option, None, Some, Result, Ok, Err, IfSome, sym, ap, subst, ◌∙◌, inl, inr, refl}
+use Rattle.std.proofs.Common.{◌≡◌, ◌⊎◌, ◌<◌, ℕ, true, length, Option, None, Some, Result, Ok, Err, IfSome, sym, ap, subst, ◌∙◌, inl, inr, refl, arith, length-append}
 use Rattle.std.specs.Prelude.{IsErrOf}
 use Rattle.std.specs.Io.KnownBytes.{Appends}
+use Rattle.mailbox_model.specs.Lists.{Bytes}
+use Rattle.follower.specs.declared.fault.Input.TheVariants.{Mbox, Steps}
 use Rattle.follow.specs.declared.status.Refusal.{Refusal}
 use Rattle.follow.specs.declared.status.Refusal.TheVariants as refusal
 use Rattle.follow.specs.declared.status.Status.{Status}
 use Rattle.follow.specs.declared.status.Status.TheVariants as status
-use Rattle.follow.specs.Outcome.{Agrees, PutsAnswer}
-use Rattle.follow.specs.Replies.{IsOutcome}
-use Rattle.follow.specs.Statuses.{status_of}
+use Rattle.outside.specs.Bytes.{AppendsPrefix, PutAppends}
+use Rattle.outside.specs.Causes.{HasCause, Rose}
+use Rattle.outside.specs.declared.faults.Failed.{Failed}
+use Rattle.follow.specs.Outcome.{Agrees, PutsAnswer, PutsLine, PutsWhole, TakesAll, TellsSteps}
+use Rattle.follow.specs.Replies.{Puts}
+use Rattle.follow.specs.Statuses.{line_of, status_of}
 
--- a refusal that came early has its status
-pub early_status : (T : Type 0) (early : Option Refusal) (why : Refusal) (s : Status) → s ≡ status_of why
-    → IfSome early (λ w. IsErrOf {T = T} (Err why) w ⊎ IsErrOf {T = T} (Err why) refusal.Memory) → IfSome early (λ w. (s ≡ status_of w) ⊎ (s ≡ status.Memory))
-early_status T None why s is h = tt
-early_status T (Some w) why s is h = elim h [
-  | inl same ↦ (let e : why ≡ w = cc in inl (is ∙ ap status_of e))
-  | inr memory ↦ (let e : why ≡ refusal.Memory = cc in inr (is ∙ ap status_of e))
-]
+abbrev Said : Refusal → Status → Type 0
+Said why s = (s ≡ status_of why) ⊎ (s ≡ status.Memory)
 
-no_answer : (old new : Option (List ℕ)) (outcome : Result (List ℕ) Refusal) (why : Refusal) → PutsAnswer old new outcome (status_of why)
-no_answer old new (Err e) why = tt
-no_answer old new (Ok text) refusal.Usage = tt
-no_answer old new (Ok text) (refusal.Read input) = tt
-no_answer old new (Ok text) refusal.Memory = tt
-no_answer old new (Ok text) refusal.Unbuilt = tt
+free : (o : Result Bytes Refusal) → Agrees o status.Memory
+free (Ok text) = tt
+free (Err why) = tt
+
+-- ---- the status is that of the outcome
+
+pub agrees_ok : (o : Result Bytes Refusal) (old new : Option Bytes) → Puts o old new (Ok tt) → Agrees o status.Ok
+agrees_ok (Ok text) old new puts = tt
+agrees_ok (Err why) old new puts = absurd puts
+
+pub agrees_write : (o : Result Bytes Refusal) (old new : Option Bytes) → Puts o old new (Err refusal.Write) → Agrees o status.Write
+agrees_write (Ok text) old new puts = tt
+agrees_write (Err why) old new puts = absurd puts
+
+pub agrees_refused : (o : Result Bytes Refusal) (old new : Option Bytes) (why : Refusal) (s : Status) → Puts o old new (Err why) → Said why s → Agrees o s
+agrees_refused o old new why s puts (inr memory) = subst (Agrees o) (sym memory) (free o)
+agrees_refused o old new why s puts (inl is) = subst (Agrees o) (sym is) (by o why puts)
+  where
+    by : (o : Result Bytes Refusal) (why : Refusal) → Puts o old new (Err why) → Agrees o (status_of why)
+    by (Ok text) refusal.Usage p = absurd cc
+    by (Ok text) (refusal.Read input) p = tt
+    by (Ok text) (refusal.Steps line) p = absurd cc
+    by (Ok text) refusal.Write p = tt
+    by (Ok text) refusal.Memory p = tt
+    by (Ok text) refusal.Full p = absurd cc
+    by (Ok text) refusal.NoChat p = absurd cc
+    by (Ok text) (refusal.Endless input) p = tt
+    by (Ok text) refusal.NoApp p = absurd cc
+    by (Ok text) refusal.Unbuilt p = absurd cc
+    by (Err e) refusal.Usage p = (let same : refusal.Usage ≡ e = cc in ap status_of same)
+    by (Err e) (refusal.Read input) p = tt
+    by (Err e) (refusal.Steps line) p = (let same : refusal.Steps line ≡ e = cc in ap status_of same)
+    by (Err e) refusal.Write p = absurd p
+    by (Err e) refusal.Memory p = tt
+    by (Err e) refusal.Full p = (let same : refusal.Full ≡ e = cc in ap status_of same)
+    by (Err e) refusal.NoChat p = (let same : refusal.NoChat ≡ e = cc in ap status_of same)
+    by (Err e) (refusal.Endless input) p = tt
+    by (Err e) refusal.NoApp p = (let same : refusal.NoApp ≡ e = cc in ap status_of same)
+    by (Err e) refusal.Unbuilt p = (let same : refusal.Unbuilt ≡ e = cc in ap status_of same)
+
+-- ---- what was put
+
+pub puts_ok : (o : Result Bytes Refusal) (old new : Option Bytes) → Puts o old new (Ok tt) → PutsAnswer old new o status.Ok
+puts_ok (Ok text) old new puts = puts
+puts_ok (Err why) old new puts = absurd puts
+
+pub puts_write : (o : Result Bytes Refusal) (old new : Option Bytes) → Puts o old new (Err refusal.Write) → PutsAnswer old new o status.Write
+puts_write (Ok text) old new puts = puts
+puts_write (Err why) old new puts = absurd puts
 
 -- no answer is put
-pub refused_puts : (old new : Option (List ℕ)) (outcome : Result (List ℕ) Refusal) (why : Refusal) (s : Status) → s ≡ status_of why → PutsAnswer old new outcome s
-refused_puts old new outcome why s is = subst (PutsAnswer old new outcome) (sym is) (no_answer old new outcome why)
+pub puts_refused : (o : Result Bytes Refusal) (old new : Option Bytes) (why : Refusal) (s : Status) → (why ≡ refusal.Write → ⊥) → Said why s → PutsAnswer old new o s
+puts_refused (Err e) old new why s write (inr memory) = subst (PutsAnswer old new (Err e)) (sym memory) tt
+puts_refused (Ok text) old new why s write (inr memory) = subst (PutsAnswer old new (Ok text)) (sym memory) tt
+puts_refused o old new why s write (inl is) = subst (PutsAnswer old new o) (sym is) (by o why write)
+  where
+    by : (o : Result Bytes Refusal) (why : Refusal) → (why ≡ refusal.Write → ⊥) → PutsAnswer old new o (status_of why)
+    by (Err e) why w = tt
+    by (Ok text) refusal.Usage w = tt
+    by (Ok text) (refusal.Read input) w = tt
+    by (Ok text) (refusal.Steps line) w = tt
+    by (Ok text) refusal.Write w = absurd (w refl)
+    by (Ok text) refusal.Memory w = tt
+    by (Ok text) refusal.Full w = tt
+    by (Ok text) refusal.NoChat w = tt
+    by (Ok text) (refusal.Endless input) w = tt
+    by (Ok text) refusal.NoApp w = tt
+    by (Ok text) refusal.Unbuilt w = tt
 
-agrees_with : (Z : Type 0) (outcome : Result (List ℕ) Refusal) (why : Refusal) → IsOutcome {Z = Z} outcome (Err why) → Agrees outcome (status_of why)
-agrees_with Z (Ok text) refusal.Usage is = absurd cc
-agrees_with Z (Ok text) (refusal.Read input) is = tt
-agrees_with Z (Ok text) refusal.Memory is = tt
-agrees_with Z (Ok text) refusal.Unbuilt is = absurd cc
-agrees_with Z (Err e) refusal.Usage is = (let same : refusal.Usage ≡ e = cc in ap status_of same)
-agrees_with Z (Err e) (refusal.Read input) is = tt
-agrees_with Z (Err e) refusal.Memory is = tt
-agrees_with Z (Err e) refusal.Unbuilt is = (let same : refusal.Unbuilt ≡ e = cc in ap status_of same)
+-- ---- where nothing failed, an answer was put whole, or memory ran out
 
--- the status is that of the outcome
-pub refused_agrees : (Z : Type 0) (outcome : Result (List ℕ) Refusal) (why : Refusal) (s : Status) → s ≡ status_of why → IsOutcome {Z = Z} outcome (Err why) → Agrees outcome s
-refused_agrees Z outcome why s is replied = subst (Agrees outcome) (sym is) (agrees_with Z outcome why replied)
+pub answered : (old new : Option Bytes) (o : Result Bytes Refusal) (text : Bytes) (s : Status) → o ≡ Ok text → Agrees o s → PutsAnswer old new o s
+    → ¬ (s ≡ status.Read) → ¬ (s ≡ status.Endless) → ¬ (s ≡ status.Write) → (s ≡ status.Ok × Appends old new text) ⊎ (s ≡ status.Memory)
+answered old new (Err why) text s is agrees puts read endless write = absurd cc
+answered old new (Ok t) text status.Ok is agrees puts read endless write = (let same : t ≡ text = cc in inl (refl, subst (λ put. Appends old new put) same puts))
+answered old new (Ok t) text status.Memory is agrees puts read endless write = inr refl
+answered old new (Ok t) text status.Read is agrees puts read endless write = absurd (read refl)
+answered old new (Ok t) text status.Endless is agrees puts read endless write = absurd (endless refl)
+answered old new (Ok t) text status.Write is agrees puts read endless write = absurd (write refl)
+answered old new (Ok t) text status.Usage is agrees puts read endless write = absurd agrees
+answered old new (Ok t) text status.Steps is agrees puts read endless write = absurd agrees
+answered old new (Ok t) text status.Full is agrees puts read endless write = absurd agrees
+answered old new (Ok t) text status.NoChat is agrees puts read endless write = absurd agrees
+answered old new (Ok t) text status.NoApp is agrees puts read endless write = absurd agrees
+answered old new (Ok t) text status.Unbuilt is agrees puts read endless write = absurd agrees
 
--- Where nothing failed, an answer was put whole, or memory ran out.
-pub answered : (old new : Option (List ℕ)) (outcome : Result (List ℕ) Refusal) (text : List ℕ) (s : Status) → outcome ≡ Ok text
-    → Agrees outcome s → PutsAnswer old new outcome s → ¬ (s ≡ status.Read) → ¬ (s ≡ status.Write)
-    → (s ≡ status.Ok × Appends old new text) ⊎ (s ≡ status.Memory)
-answered old new (Err why) text s is agrees puts no_read no_write = absurd cc
-answered old new (Ok t) text status.Ok is agrees puts no_read no_write = (let same : t ≡ text = cc in inl (refl, subst (λ put. Appends old new put) same puts))
-answered old new (Ok t) text status.Usage is agrees puts no_read no_write = absurd agrees
-answered old new (Ok t) text status.Read is agrees puts no_read no_write = absurd (no_read refl)
-answered old new (Ok t) text status.Write is agrees puts no_read no_write = absurd (no_write refl)
-answered old new (Ok t) text status.Memory is agrees puts no_read no_write = inr refl
-answered old new (Ok t) text status.Unbuilt is agrees puts no_read no_write = absurd agrees
+-- the line of a read fault has its cause
+pub not_read : (old new : Option Bytes) (cause : Refusal → Type 0) (rose : Type 0) (s : Status) → PutsLine old new cause rose s
+    → ¬ cause (refusal.Read Mbox) → ¬ cause (refusal.Read Steps) → ¬ (s ≡ status.Read)
+not_read old new cause rose s line mbox steps is = by (subst (PutsLine old new cause rose) is line)
+  where
+    by : PutsLine old new cause rose status.Read → ⊥
+    by l = none l.0 l.1 l.2
+      where
+        none : (why : Refusal) → status.Read ≡ status_of why → cause why → ⊥
+        none (refusal.Read Mbox) e c = mbox c
+        none (refusal.Read Steps) e c = steps c
+        none refusal.Usage e c = absurd cc
+        none (refusal.Steps line) e c = absurd cc
+        none refusal.Write e c = absurd cc
+        none refusal.Memory e c = absurd cc
+        none refusal.Full e c = absurd cc
+        none refusal.NoChat e c = absurd cc
+        none (refusal.Endless input) e c = absurd cc
+        none refusal.NoApp e c = absurd cc
+        none refusal.Unbuilt e c = absurd cc
+
+pub not_endless : (old new : Option Bytes) (cause : Refusal → Type 0) (rose : Type 0) (s : Status) → PutsLine old new cause rose s
+    → ¬ cause (refusal.Endless Mbox) → ¬ cause (refusal.Endless Steps) → ¬ (s ≡ status.Endless)
+not_endless old new cause rose s line mbox steps is = by (subst (PutsLine old new cause rose) is line)
+  where
+    by : PutsLine old new cause rose status.Endless → ⊥
+    by l = none l.0 l.1 l.2
+      where
+        none : (why : Refusal) → status.Endless ≡ status_of why → cause why → ⊥
+        none (refusal.Endless Mbox) e c = mbox c
+        none (refusal.Endless Steps) e c = steps c
+        none refusal.Usage e c = absurd cc
+        none (refusal.Read input) e c = absurd cc
+        none (refusal.Steps line) e c = absurd cc
+        none refusal.Write e c = absurd cc
+        none refusal.Memory e c = absurd cc
+        none refusal.Full e c = absurd cc
+        none refusal.NoChat e c = absurd cc
+        none refusal.NoApp e c = absurd cc
+        none refusal.Unbuilt e c = absurd cc
+
+-- fewer bytes were there
+pub not_all : (before after : Option Bytes) (bytes : Bytes) (budget : ℕ) → before ≡ Some bytes → length bytes < budget → ¬ TakesAll before after budget
+not_all None after bytes budget is fewer t = absurd cc
+not_all (Some b) None bytes budget is fewer t = absurd t.2
+not_all (Some b) (Some a) bytes budget is fewer t =
+    let same : b ≡ bytes = cc in
+    omega (arith, fewer, ap length same, ap length t.2, t.1, length-append t.0 a)
+
+-- ---- a line that was put
+
+-- it was put whole, or a prefix of it where the sink's count rose
+pub put_whole : (old new : Option Bytes) (before after : ℕ) (chunk line : Bytes) (r : Result Unit Failed) → chunk ≡ line → PutAppends old new r chunk → HasCause before after r
+    → PutsWhole old new line (Rose before after)
+put_whole old new before after chunk line (Ok _) is put cause = inl (subst (λ l. Appends old new l) is put)
+put_whole old new before after chunk line (Err _) is put cause = inr (subst (λ l. AppendsPrefix old new l) is put, cause.failed)
+
+-- the line of a refusal, with its cause
+pub refused_line : (old new : Option Bytes) (cause : Refusal → Type 0) (rose : Type 0) (why : Refusal) (s : Status) → cause why → cause refusal.Memory
+    → (said : Refusal) × (s ≡ status_of said) × ((said ≡ why) ⊎ (said ≡ refusal.Memory)) × PutsWhole old new (line_of said) rose → PutsLine old new cause rose s
+refused_line old new cause rose why s of_why of_memory line =
+    subst (PutsLine old new cause rose) (sym line.1) (by line.0 (which line.0 line.2) line.3)
+  where
+    which : (said : Refusal) → (said ≡ why) ⊎ (said ≡ refusal.Memory) → cause said
+    which said (inl is) = subst cause (sym is) of_why
+    which said (inr is) = subst cause (sym is) of_memory
+
+    by : (said : Refusal) → cause said → PutsWhole old new (line_of said) rose → PutsLine old new cause rose (status_of said)
+    by refusal.Usage c p = (refusal.Usage, refl, c, p)
+    by (refusal.Read input) c p = (refusal.Read input, refl, c, p)
+    by (refusal.Steps number) c p = (refusal.Steps number, refl, c, p)
+    by refusal.Write c p = tt
+    by refusal.Memory c p = (refusal.Memory, refl, c, p)
+    by refusal.Full c p = (refusal.Full, refl, c, p)
+    by refusal.NoChat c p = (refusal.NoChat, refl, c, p)
+    by (refusal.Endless input) c p = (refusal.Endless input, refl, c, p)
+    by refusal.NoApp c p = (refusal.NoApp, refl, c, p)
+    by refusal.Unbuilt c p = (refusal.Unbuilt, refl, c, p)
+
+-- ---- memory
+
+pub said_memory : (why : Refusal) (s : Status) → Said why s → IsErrOf {T = Unit} (Err why) refusal.Memory → s ≡ status.Memory
+said_memory why s (inl is) memory = is ∙ ap status_of {y = refusal.Memory} cc
+said_memory why s (inr is) memory = is
+
+pub not_memory : (why : Refusal) → why ≡ refusal.Write → IsErrOf {T = Unit} (Err why) refusal.Memory → ⊥
+not_memory why is memory = absurd cc
+
+-- the steps file told fewer bytes
+pub not_all_steps : (before after lines : Option Bytes) (budget : ℕ) → TellsSteps true before lines → IfSome lines (λ lines. length lines < budget) → ¬ TakesAll before after budget
+not_all_steps before after None budget told fewer t = absurd told
+not_all_steps before after (Some lines) budget told fewer t = not_all before after lines budget told fewer t
+
+-- ---- what a run leaves as it was
+
+pub second : (o : Option Refusal) (P Q : Type 0) → IfSome o (λ why. P × Q) → IfSome o (λ why. Q)
+second None P Q both = tt
+second (Some why) P Q both = both.1

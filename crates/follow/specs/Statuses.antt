@@ -1,6 +1,11 @@
 -- The status, its code and its fault line.
-use Rattle.std.specs.Prelude.{ℕ, List, codes}
-use Rattle.follow.specs.declared.status.Input.TheVariants.{Mbox, Steps}
+use Rattle.std.specs.Prelude.{ℕ, List, [], ◌++◌, codes}
+use Rattle.std.specs.Fmt.{decimal}
+use Rattle.answers.specs.declared.fault.AnswerFault.{AnswerFault}
+use Rattle.answers.specs.declared.fault.AnswerFault.TheVariants as answer
+use Rattle.follower.specs.declared.fault.Input.TheVariants.{Mbox, Steps}
+use Rattle.follower.specs.declared.fault.RunFault.{RunFault}
+use Rattle.follower.specs.declared.fault.RunFault.TheVariants as fault
 use Rattle.follow.specs.declared.status.Refusal.{Refusal}
 use Rattle.follow.specs.declared.status.Refusal.TheVariants as refusal
 use Rattle.follow.specs.declared.status.Status.{Status}
@@ -10,20 +15,52 @@ abbrev pub code_of : Status → ℕ
 code_of status.Ok = 0
 code_of status.Usage = 1
 code_of status.Read = 2
+code_of status.Steps = 3
 code_of status.Write = 5
 code_of status.Memory = 6
+code_of status.Full = 7
+code_of status.NoChat = 8
+code_of status.Endless = 12
+code_of status.NoApp = 14
 code_of status.Unbuilt = 15
 
 abbrev pub status_of : Refusal → Status
 status_of refusal.Usage = status.Usage
 status_of (refusal.Read input) = status.Read
+status_of (refusal.Steps line) = status.Steps
+status_of refusal.Write = status.Write
 status_of refusal.Memory = status.Memory
+status_of refusal.Full = status.Full
+status_of refusal.NoChat = status.NoChat
+status_of (refusal.Endless input) = status.Endless
+status_of refusal.NoApp = status.NoApp
 status_of refusal.Unbuilt = status.Unbuilt
 
--- the line that says why there is no answer
+-- a run is refused where its files can't be followed
+abbrev pub refusal_of : RunFault → Refusal
+refusal_of (fault.Read input) = refusal.Read input
+refusal_of (fault.Endless input) = refusal.Endless input
+refusal_of (fault.Steps line) = refusal.Steps line
+refusal_of fault.Full = refusal.Full
+refusal_of fault.Memory = refusal.Memory
+
+-- The line that says why there is no answer. Where the answer could not be written, neither is a line.
 abbrev pub line_of : Refusal → List ℕ
 line_of refusal.Usage = codes "chats: usage: --me ADDR [--at N] list | chat KEY | contacts | updates ID [--info] | trial N\n"
 line_of (refusal.Read Mbox) = codes "chats: read fault: mbox\n"
 line_of (refusal.Read Steps) = codes "chats: read fault: steps\n"
+line_of (refusal.Steps line) = codes "chats: steps line " ++ decimal line ++ codes "\n"
+line_of refusal.Write = []
 line_of refusal.Memory = codes "chats: out of memory\n"
+line_of refusal.Full = codes "chats: mailbox full\n"
+line_of refusal.NoChat = codes "chats: no such chat\n"
+line_of (refusal.Endless Mbox) = codes "chats: endless mbox\n"
+line_of (refusal.Endless Steps) = codes "chats: endless steps\n"
+line_of refusal.NoApp = codes "chats: no such app\n"
 line_of refusal.Unbuilt = codes "chats: not built yet\n"
+
+abbrev pub answer_refusal : AnswerFault → Refusal
+answer_refusal answer.NoChat = refusal.NoChat
+answer_refusal answer.NoApp = refusal.NoApp
+answer_refusal answer.Write = refusal.Write
+answer_refusal answer.Memory = refusal.Memory

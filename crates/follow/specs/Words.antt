@@ -95,11 +95,6 @@ command_of (name ∷ value ∷ []) = if is_value value then of_value name value 
 command_of (name ∷ a ∷ b ∷ []) = if bytes_eq name (codes "updates") then of_info a b else None
 command_of _ = None
 
--- the one command that is answered so far
-abbrev pub is_list : Command → Bool
-is_list command.List = true
-is_list _ = false
-
 -- the address of the person, if there is one and no other
 abbrev pub sole : List Person → Option (List ℕ)
 sole (person ∷ []) = Some person.addr

@@ -1,186 +1,287 @@
 //! The whole run.
-ghost use Rattle.std.specs.Prelude.{◌≡◌, ◌≤◌, ◌+◌, ◌⊎◌, List, ℕ, Ok, None, Some, IfOk, IfSome, IsErrOf, is_none, is_some, length, ok_or, option_map, string_bytes};
+ghost use Rattle.std.specs.Prelude.{◌≡◌, ◌≢◌, ◌≤◌, ◌<◌, ◌⊎◌, List, ℕ, Option, Ok, None, Some, true, false, IfErr, IfOk, IfSome, IsErrOf, OnOk, is_none, is_some, length, not, ◌&&◌, unwrap_or};
 ghost use Rattle.std.specs.Io.KnownBytes.{Appends, Consumes};
 ghost use Rattle.outside.specs.Causes.{Rose};
 ghost use Rattle.outside.specs.Lent.{IfLent};
 ghost use Rattle.kit.specs.Moments.{last_moment};
+ghost use Rattle.mailbox_model.specs.Lists.{Bytes};
+ghost use Rattle.follower.specs.Feed.{feed, first_state};
+ghost use Rattle.follower.specs.Following.{IsUsable};
+ghost use Rattle.follow.specs.Replies.{FollowGoes, LastGoes, Puts};
 ghost use Rattle.follow.specs.Grammar.{IsNoRequest};
-ghost use Rattle.follow.specs.Lists.{list};
-ghost use Rattle.follow.specs.Outcome.{answer_to, needs_clock, early, followed, moment_of_run, outcome, AsksClock, ComesWhere, Agrees, PutsAnswer, PutsLine, ClockGives};
-ghost use Rattle.follow.specs.Plain.{max_len};
-ghost use Rattle.follow.specs.Replies.{IsOutcome};
-ghost use Rattle.follow.specs.Statuses.{status_of};
-ghost use Rattle.follow.specs.Texts.{list_text};
+ghost use Rattle.follow.specs.Outcome.{Agrees, PutsWhole, AsksClock, CauseOf, ClockGives, ComesWhere, IfLentAnd, LentTells, PutsAnswer, PutsLine, TakesAll, TakesUpTo, TellsSteps, early, given_of, moment_of_run, mbox_budget, needs_clock, outcome, result as result_of, steps_budget};
+ghost use Rattle.follower.specs.Reached.{reached};
+ghost use Rattle.follow.specs.Statuses.{line_of, refusal_of, status_of};
 ghost use Rattle.follow.specs.Words.{request};
+ghost use Rattle.follower.specs.declared.fault.RunFault.TheVariants as fault;
+ghost use Rattle.follow.specs.declared.status.Refusal.TheVariants as refusal;
 
-use crate::card::PlainCard;
-use crate::list::list_of;
-use crate::mail::mail_order;
-use crate::plain::plain_cards;
-use crate::printed::list_text;
-use crate::status::{Input, Refusal, Status};
-use crate::whole::{WholeFault, read_whole};
+use crate::status::{Refusal, Status};
 use crate::words::Request;
+use answers::{Question, print_answer};
+use follower::{Follower, RunFault, follow_lines, follow_mails};
 use kit::{Addr, Memory, Steps, Text};
-use outside::{Clock, Shelf, Sink, Source};
+use outside::{Clock, NoSource, Shelf, Sink, Source};
 use std::alloc::Global;
 use std::sync::ledger::Ledger;
 
-/// No plain mbox has more bytes.
-const MAX_LEN: usize = 1_048_576;
+/// The line that says that memory ran out.
+const OUT_OF_MEMORY: &str = "chats: out of memory\n";
 
-/// The printed list of the chats of the mails that arrive at a moment, in anyone's mailbox.
-fn print_cards(alloc: Global, moment: u64, cards: Vec<PlainCard>) -> Result<String, Memory>
-    requires { moment ≤ last_moment }
-    ensures { (me : List ℕ) → IfOk result (λ text. string_bytes text ≡ list_text (list (followed me moment cards.items))) }
-{
-    let mails = mail_order(alloc, moment, cards)?;
-    let rows = list_of(alloc, &mails)?;
-    list_text(alloc, &rows)
-}
-
-/// The list of the chats in a mailbox of `me` whose mails arrive at a moment; none where the mbox is not plain.
-fn answer(alloc: Global, me: &Addr, moment: u64, mbox: &[u8]) -> Result<Option<String>, Memory>
-    requires bytes { length mbox.now ≤ max_len }
-    requires moment { moment ≤ last_moment }
-    ensures { IfOk result (λ answer. option_map (λ text. string_bytes text) answer ≡ answer_to me.now moment mbox.now) }
-{
-    match plain_cards(alloc, me, mbox)? {
-        Some(cards) => Ok(Some(print_cards(alloc, moment, cards)?)),
-        None => Ok(None),
-    }
-}
-
-/// The bytes of an mbox that is no longer than a plain one.
-fn read_mbox<M: Source>(alloc: Global, mbox: &mut M) -> Result<Vec<u8>, Refusal>
-    ensures no_usage { IsErrOf result Refusal.Usage → ⊥ }
-    ensures read { IsErrOf result (Refusal.Read Input.Mbox) → Rose (M.faults mbox.old) (M.faults mbox.new) }
-    ensures no_steps { IsErrOf result (Refusal.Read Input.Steps) → ⊥ }
-    ensures long { IsErrOf result Refusal.Unbuilt → IfSome (M.left mbox.old) (λ bytes. max_len + 1 ≤ length bytes) }
-    ensures whole { IfOk result (λ read. IfSome (M.left mbox.old) (λ bytes. read.items ≡ bytes)) }
-    ensures short { IfOk result (λ read. length read.items ≤ max_len) }
-    ensures taken { (chunk : List ℕ) × (length chunk ≤ max_len + 1) × Consumes (M.left mbox.old) (M.left mbox.new) chunk }
-{
-    match read_whole(alloc, MAX_LEN, mbox) {
-        Ok(bytes) => Ok(bytes),
-        Err(WholeFault::Read) => Err(Refusal::Read(Input::Mbox)),
-        Err(WholeFault::TooLong) => Err(Refusal::Unbuilt),
-        Err(WholeFault::Memory) => Err(Refusal::Memory),
-    }
-}
-
-/// The moment of a run, for which the clock is asked where the words give none.
-fn moment_of_run<C: Clock>(request: &Request, clock: &mut C) -> u64
-    requires { IfSome request.now.at (λ at. at ≤ last_moment) }
+/// The moment of a run without a steps file, for which the clock is asked where the words give none.
+fn moment_or_now<C: Clock>(at: Option<u64>, clock: &mut C) -> u64
+    requires { IfSome at (λ moment. moment ≤ last_moment) }
     ensures bound { result ≤ last_moment }
-    ensures value { (next : ℕ) → ClockGives (is_none request.now.at) (C.next clock.old) next → result ≡ moment_of_run request.now next }
-    ensures clock { AsksClock C.asked (is_none request.now.at) clock.old clock.new ⊥ }
+    ensures value { (next : ℕ) → ClockGives (is_none at) (C.next clock.old) next → result ≡ unwrap_or at next }
+    ensures clock { AsksClock C.asked (is_none at) clock.old clock.new ⊥ }
 {
-    match request.at {
+    match at {
         Some(moment) => moment,
         None => clock.now(),
     }
 }
 
-/// The printed list that a request is for, or why there is none.
-fn reply_to<M: Source, C: Clock>(
+/// Follows the mbox alone: a moment comes, and then all mails arrive.
+fn follow_mbox<M: Source, C: Clock, L: Ledger>(
     alloc: Global,
-    request: &Request,
+    me: Addr,
+    at: Option<u64>,
     mbox: &mut M,
     clock: &mut C,
-) -> Result<String, Refusal>
-    requires { IfSome request.now.at (λ at. at ≤ last_moment) }
-    ensures no_usage { IsErrOf result Refusal.Usage → ⊥ }
-    ensures read { IsErrOf result (Refusal.Read Input.Mbox) → Rose (M.faults mbox.old) (M.faults mbox.new) }
-    ensures no_steps { IsErrOf result (Refusal.Read Input.Steps) → ⊥ }
-    ensures outcome { (bytes : List ℕ) (moment : ℕ) → M.left mbox.old ≡ Some bytes
-        → ClockGives (is_none request.now.at) (C.next clock.old) moment
-        → IsOutcome (ok_or (answer_to request.now.me (moment_of_run request.now moment) bytes) Refusal.Unbuilt) result }
-    ensures clock { AsksClock C.asked (is_none request.now.at) clock.old clock.new ⊥ }
-    ensures taken { (chunk : List ℕ) × (length chunk ≤ max_len + 1) × Consumes (M.left mbox.old) (M.left mbox.new) chunk }
+    steps: &mut Steps<L>,
+) -> Result<Follower, RunFault>
+    requires { IfSome at (λ moment. moment ≤ last_moment) }
+    ensures goes { (bytes : Bytes) (next : ℕ) → M.left mbox.old ≡ Some bytes → ClockGives (is_none at) (C.next clock.old) next
+        → FollowGoes result (reached (first_state me) (feed (first_state me) bytes None (Some (unwrap_or at next)))) }
+    ensures current { IfOk result (λ f. f.stale ≡ false) }
+    ensures later { M.faults mbox.old ≤ M.faults mbox.new }
+    ensures cause { IfErr result (λ why. CauseOf (Rose (M.faults mbox.old) (M.faults mbox.new)) ⊥
+        (TakesAll (M.left mbox.old) (M.left mbox.new) mbox_budget) ⊥ (refusal_of why)) }
+    ensures took { TakesUpTo (M.left mbox.old) (M.left mbox.new) mbox_budget }
+    ensures clock { AsksClock C.asked (is_none at) clock.old clock.new (IsErrOf result RunFault.Memory) }
 {
-    let moment = moment_of_run(request, clock);
-    let bytes = read_mbox(alloc, mbox)?;
-    match answer(alloc, &request.me, moment, &bytes)? {
-        Some(text) => Ok(text),
-        None => Err(Refusal::Unbuilt),
+    let mut follower = Follower::new(alloc, me)?;
+    follower.at(moment_or_now(at, clock), steps)?;
+    follow_mails(&mut follower, mbox, steps)?;
+    Ok(follower)
+}
+
+/// Makes the moment that comes last, where there is one.
+fn make_last<L: Ledger>(
+    follower: &mut Follower,
+    at: Option<u64>,
+    steps: &mut Steps<L>,
+) -> Result<(), RunFault>
+    requires usable { IsUsable follower.old }
+    requires moment { IfSome at (λ moment. moment ≤ last_moment) }
+    ensures goes { LastGoes at result follower.old follower.new }
+    ensures current { OnOk result (follower.new.stale ≡ false) }
+    ensures cause { IfErr result (λ why. (why ≡ fault.Full) ⊎ (why ≡ fault.Memory)) }
+{
+    match at {
+        Some(moment) => follower.at(moment, steps),
+        None => Ok(()),
     }
 }
 
-/// The answer to the words, or why there is none.
-fn reply<M: Source, C: Clock>(
+/// Follows the steps file, and then a moment comes where the words give one.
+fn follow_steps<M: Source, S: Source, L: Ledger>(
+    alloc: Global,
+    me: Addr,
+    at: Option<u64>,
+    mbox: &mut M,
+    steps_file: &mut S,
+    steps: &mut Steps<L>,
+) -> Result<Follower, RunFault>
+    requires { IfSome at (λ moment. moment ≤ last_moment) }
+    ensures goes { (bytes lines : Bytes) → M.left mbox.old ≡ Some bytes → S.left steps_file.old ≡ Some lines
+        → FollowGoes result (reached (first_state me) (feed (first_state me) bytes (Some lines) at)) }
+    ensures current { IfOk result (λ f. f.stale ≡ false) }
+    ensures mbox_later { M.faults mbox.old ≤ M.faults mbox.new }
+    ensures steps_later { S.faults steps_file.old ≤ S.faults steps_file.new }
+    ensures cause { IfErr result (λ why. CauseOf (Rose (M.faults mbox.old) (M.faults mbox.new)) (Rose (S.faults steps_file.old) (S.faults steps_file.new))
+        (TakesAll (M.left mbox.old) (M.left mbox.new) mbox_budget) (TakesAll (S.left steps_file.old) (S.left steps_file.new) steps_budget) (refusal_of why)) }
+    ensures mbox_took { TakesUpTo (M.left mbox.old) (M.left mbox.new) mbox_budget }
+    ensures steps_took { TakesUpTo (S.left steps_file.old) (S.left steps_file.new) steps_budget }
+{
+    let mut follower = Follower::new(alloc, me)?;
+    follow_lines(&mut follower, mbox, steps_file, steps)?;
+    make_last(&mut follower, at, steps)?;
+    Ok(follower)
+}
+
+/// Follows the files, with a flag that says whether a steps file is given.
+fn follow_files<M: Source, S: Source, C: Clock, L: Ledger>(
+    alloc: Global,
+    me: Addr,
+    at: Option<u64>,
+    given: bool,
+    mbox: &mut M,
+    steps_file: &mut S,
+    clock: &mut C,
+    steps: &mut Steps<L>,
+) -> Result<Follower, RunFault>
+    requires { IfSome at (λ moment. moment ≤ last_moment) }
+    ensures goes { (bytes : Bytes) (lines : Option Bytes) (next : ℕ) → M.left mbox.old ≡ Some bytes
+        → TellsSteps given (S.left steps_file.old) lines → ClockGives (not given && is_none at) (C.next clock.old) next
+        → FollowGoes result (reached (first_state me) (feed (first_state me) bytes lines (moment_of_run at (is_some lines) next))) }
+    ensures current { IfOk result (λ f. f.stale ≡ false) }
+    ensures cause { IfErr result (λ why. CauseOf (Rose (M.faults mbox.old) (M.faults mbox.new)) (Rose (S.faults steps_file.old) (S.faults steps_file.new))
+        (TakesAll (M.left mbox.old) (M.left mbox.new) mbox_budget) (TakesAll (S.left steps_file.old) (S.left steps_file.new) steps_budget) (refusal_of why)) }
+    ensures mbox_took { TakesUpTo (M.left mbox.old) (M.left mbox.new) mbox_budget }
+    ensures steps_took { TakesUpTo (S.left steps_file.old) (S.left steps_file.new) steps_budget }
+    ensures clock { AsksClock C.asked (not given && is_none at) clock.old clock.new (IsErrOf result RunFault.Memory) }
+{
+    if given {
+        follow_steps(alloc, me, at, mbox, steps_file, steps)
+    } else {
+        follow_mbox(alloc, me, at, mbox, clock, steps)
+    }
+}
+
+/// Follows the files and prints the answer to a question, or says why there is none.
+fn reply_to<M: Source, S: Source, C: Clock, K: Sink, L: Ledger>(
+    alloc: Global,
+    me: Addr,
+    at: Option<u64>,
+    question: &Question,
+    given: bool,
+    mbox: &mut M,
+    steps_file: &mut S,
+    clock: &mut C,
+    out: &mut K,
+    steps: &mut Steps<L>,
+) -> Result<(), Refusal>
+    requires { IfSome at (λ moment. moment ≤ last_moment) }
+    ensures puts { (bytes : Bytes) (lines : Option Bytes) (next : ℕ) → M.left mbox.old ≡ Some bytes
+        → TellsSteps given (S.left steps_file.old) lines → ClockGives (not given && is_none at) (C.next clock.old) next
+        → Puts (result_of question.now (given_of me at bytes lines next)) (K.held out.old) (K.held out.new) result }
+    ensures no_usage { IfErr result (λ why. (why ≢ refusal.Usage) × (why ≢ refusal.Unbuilt)) }
+    ensures write { IsErrOf result Refusal.Write → Rose (K.faults out.old) (K.faults out.new) }
+    ensures nothing { IfErr result (λ why. why ≢ refusal.Write → out.new ≡ out.old) }
+    ensures cause { IfErr result (CauseOf (Rose (M.faults mbox.old) (M.faults mbox.new)) (Rose (S.faults steps_file.old) (S.faults steps_file.new))
+        (TakesAll (M.left mbox.old) (M.left mbox.new) mbox_budget) (TakesAll (S.left steps_file.old) (S.left steps_file.new) steps_budget)) }
+    ensures mbox_took { TakesUpTo (M.left mbox.old) (M.left mbox.new) mbox_budget }
+    ensures steps_took { TakesUpTo (S.left steps_file.old) (S.left steps_file.new) steps_budget }
+    ensures clock { AsksClock C.asked (not given && is_none at) clock.old clock.new (IsErrOf result Refusal.Memory) }
+{
+    let follower = follow_files(alloc, me, at, given, mbox, steps_file, clock, steps)?;
+    Ok(print_answer(alloc, follower.engine(), question, out, steps)?)
+}
+
+/// The reply to the words, as a status: `Ok`, or why no answer was put whole.
+fn reply<M: Source, S: Source, C: Clock, K: Sink, L: Ledger>(
     alloc: Global,
     words: &[Text],
     given: bool,
     mbox: &mut M,
+    steps_file: &mut S,
     clock: &mut C,
-) -> Result<String, Refusal>
+    out: &mut K,
+    steps: &mut Steps<L>,
+) -> Result<(), Refusal>
     ensures usage { IsErrOf result Refusal.Usage → request words.now ≡ None }
-    ensures early { IfSome (early (request words.now) given) (λ why. IsErrOf result why ⊎ IsErrOf result Refusal.Memory) }
-    ensures untouched { IfSome (early (request words.now) given) (λ why. mbox.new ≡ mbox.old) }
-    ensures read { IsErrOf result (Refusal.Read Input.Mbox) → Rose (M.faults mbox.old) (M.faults mbox.new) }
-    ensures no_steps { IsErrOf result (Refusal.Read Input.Steps) → ⊥ }
-    ensures outcome { (bytes : List ℕ) (moment : ℕ) → M.left mbox.old ≡ Some bytes
-        → ClockGives (needs_clock (request words.now) given) (C.next clock.old) moment → IsOutcome (outcome words.now given bytes moment) result }
+    ensures early { IfSome (early (request words.now)) (λ why. IsErrOf result why ⊎ IsErrOf result Refusal.Memory) }
+    ensures unbuilt { IsErrOf result Refusal.Unbuilt → early (request words.now) ≡ Some refusal.Unbuilt }
+    ensures untouched { IfSome (early (request words.now)) (λ why. (mbox.new ≡ mbox.old) × (steps_file.new ≡ steps_file.old)) }
+    ensures puts { (bytes : Bytes) (lines : Option Bytes) (next : ℕ) → M.left mbox.old ≡ Some bytes
+        → TellsSteps given (S.left steps_file.old) lines → ClockGives (needs_clock (request words.now) given) (C.next clock.old) next
+        → Puts (outcome words.now bytes lines next) (K.held out.old) (K.held out.new) result }
+    ensures write { IsErrOf result Refusal.Write → Rose (K.faults out.old) (K.faults out.new) }
+    ensures nothing { IfErr result (λ why. why ≢ refusal.Write → out.new ≡ out.old) }
+    ensures cause { IfErr result (CauseOf (Rose (M.faults mbox.old) (M.faults mbox.new)) (Rose (S.faults steps_file.old) (S.faults steps_file.new))
+        (TakesAll (M.left mbox.old) (M.left mbox.new) mbox_budget) (TakesAll (S.left steps_file.old) (S.left steps_file.new) steps_budget)) }
+    ensures mbox_took { TakesUpTo (M.left mbox.old) (M.left mbox.new) mbox_budget }
+    ensures steps_took { TakesUpTo (S.left steps_file.old) (S.left steps_file.new) steps_budget }
     ensures clock { AsksClock C.asked (needs_clock (request words.now) given) clock.old clock.new (IsErrOf result Refusal.Memory) }
-    ensures taken { (chunk : List ℕ) × (length chunk ≤ max_len + 1) × Consumes (M.left mbox.old) (M.left mbox.new) chunk }
 {
     let Some(request) = Request::read(alloc, words)? else {
         return Err(Refusal::Usage);
     };
-    if given || !request.command.is_list() {
+    let Request { me, at, command } = request;
+    let Some(question) = command.question() else {
         return Err(Refusal::Unbuilt);
+    };
+    reply_to(
+        alloc, me, at, &question, given, mbox, steps_file, clock, out, steps,
+    )
+}
+
+/// Puts the line of a refusal, and says how the run ends.
+///
+/// - `line`: the line of a refusal with that status was put, or a prefix of it where the sink's count rose. It is the
+///   refusal that was given, or that memory ran out for its line.
+fn refuse<K: Sink>(alloc: Global, why: Refusal, out: &mut K) -> Status
+    ensures status { (result ≡ status_of why) ⊎ (result ≡ Status.Memory) }
+    ensures line { (said : Refusal) × (result ≡ status_of said) × ((said ≡ why) ⊎ (said ≡ refusal.Memory))
+        × PutsWhole (K.held out.old) (K.held out.new) (line_of said) (Rose (K.faults out.old) (K.faults out.new)) }
+{
+    // The status is the same where the line can't be put.
+    match why.line(alloc) {
+        Ok(line) => {
+            let _ = out.put(line.as_bytes());
+            why.status()
+        }
+        Err(Memory) => {
+            let _ = out.put(OUT_OF_MEMORY.as_bytes());
+            Status::Memory
+        }
     }
-    reply_to(alloc, &request, mbox, clock)
 }
 
 /// The run, with a flag that says whether a steps file is given.
-fn run_given<M: Source, C: Clock, K: Sink>(
+fn run_given<M: Source, S: Source, C: Clock, K: Sink, L: Ledger>(
     alloc: Global,
     words: &[Text],
     given: bool,
     mbox: &mut M,
+    steps_file: &mut S,
     clock: &mut C,
     out: &mut K,
+    steps: &mut Steps<L>,
 ) -> Status
     ensures usage { ComesWhere Status.Usage (request words.now ≡ None) result }
-    ensures early { IfSome (early (request words.now) given) (λ why. (result ≡ status_of why) ⊎ (result ≡ Status.Memory)) }
-    ensures read { result ≡ Status.Read → Rose (M.faults mbox.old) (M.faults mbox.new) }
+    ensures unbuilt { ComesWhere Status.Unbuilt (early (request words.now) ≡ Some refusal.Unbuilt) result }
+    ensures untouched { IfSome (early (request words.now)) (λ why. (mbox.new ≡ mbox.old) × (steps_file.new ≡ steps_file.old)) }
     ensures write { result ≡ Status.Write → Rose (K.faults out.old) (K.faults out.new) }
-    ensures status { (bytes : List ℕ) (moment : ℕ) → M.left mbox.old ≡ Some bytes
-        → ClockGives (needs_clock (request words.now) given) (C.next clock.old) moment → Agrees (outcome words.now given bytes moment) result }
-    ensures answer { (bytes : List ℕ) (moment : ℕ) → M.left mbox.old ≡ Some bytes
-        → ClockGives (needs_clock (request words.now) given) (C.next clock.old) moment
-        → PutsAnswer (K.held out.old) (K.held out.new) (outcome words.now given bytes moment) result }
-    ensures line { PutsLine (K.held out.old) (K.held out.new) (Rose (M.faults mbox.old) (M.faults mbox.new))
-        (Rose (K.faults out.old) (K.faults out.new)) result }
-    ensures untouched { IfSome (early (request words.now) given) (λ why. mbox.new ≡ mbox.old) }
-    ensures taken { (chunk : List ℕ) × (length chunk ≤ max_len + 1) × Consumes (M.left mbox.old) (M.left mbox.new) chunk }
+    ensures status { (bytes : Bytes) (lines : Option Bytes) (next : ℕ) → M.left mbox.old ≡ Some bytes
+        → TellsSteps given (S.left steps_file.old) lines → ClockGives (needs_clock (request words.now) given) (C.next clock.old) next
+        → Agrees (outcome words.now bytes lines next) result }
+    ensures answer { (bytes : Bytes) (lines : Option Bytes) (next : ℕ) → M.left mbox.old ≡ Some bytes
+        → TellsSteps given (S.left steps_file.old) lines → ClockGives (needs_clock (request words.now) given) (C.next clock.old) next
+        → PutsAnswer (K.held out.old) (K.held out.new) (outcome words.now bytes lines next) result }
+    ensures line { PutsLine (K.held out.old) (K.held out.new) (CauseOf (Rose (M.faults mbox.old) (M.faults mbox.new))
+        (Rose (S.faults steps_file.old) (S.faults steps_file.new)) (TakesAll (M.left mbox.old) (M.left mbox.new) mbox_budget)
+        (TakesAll (S.left steps_file.old) (S.left steps_file.new) steps_budget)) (Rose (K.faults out.old) (K.faults out.new)) result }
+    ensures mbox_took { TakesUpTo (M.left mbox.old) (M.left mbox.new) mbox_budget }
+    ensures steps_took { TakesUpTo (S.left steps_file.old) (S.left steps_file.new) steps_budget }
     ensures clock { AsksClock C.asked (needs_clock (request words.now) given) clock.old clock.new (result ≡ Status.Memory) }
 {
-    match reply(alloc, words, given, mbox, clock) {
-        Ok(text) => match out.put(text.as_bytes()) {
-            Ok(()) => Status::Ok,
-            Err(_) => Status::Write,
-        },
-        Err(why) => {
-            // The status is the same where the line can't be put.
-            let _ = out.put(why.line());
-            why.status()
-        }
+    match reply(alloc, words, given, mbox, steps_file, clock, out, steps) {
+        Ok(()) => Status::Ok,
+        // The sink took a prefix of the answer, after which no line comes.
+        Err(why) if why == Refusal::Write => Status::Write,
+        Err(why) => refuse(alloc, why, out),
     }
 }
 
 /// Runs the words of a command line over the devices, and puts the answer, or the line that says why there is none.
 ///
-/// Of the commands only `list` is answered so far: the list of the chats of an mbox that is plain, that is, of at most
-/// 1,048,576 bytes and mails of nine stated lines each, all of which arrive at one moment, in seconds since 1970. That is
-/// the moment of the option `--at`, or the clock's, which is asked once where the words give none and the mbox is read.
+/// It follows the mailbox from its beginning. Without a steps file a moment comes, in seconds since 1970-01-01 00:00:00
+/// UTC, and then each mail of the mbox arrives: the moment of the option `--at`, or the clock's, which is asked once, and
+/// only there. With a steps file its lines are made in order, and then the moment of `--at` comes, where that is given. Of
+/// the mailbox that this gives the list, a chat, the contacts or the updates of an app are printed.
 ///
-/// `Usage` comes exactly where the words are written as no request, and `Unbuilt` where the command is another one, where
-/// a steps file is given, of which nothing is taken, or where the mbox is not plain. `Read` and `Write` come only at a
-/// fault of the mbox or of the sink in this call, and `Memory` may come at any point. At most 1,048,577 bytes of the mbox
-/// are taken. The shelf is not called, and no step is taken.
+/// - `Usage` comes exactly where the words are written as no request, and `Unbuilt` exactly where the command is `trial`,
+///   or `updates` with `--info`.
+/// - `Read` comes only at a fault of the mbox or the steps file in this call, `Endless` only where 2^36 bytes of the mbox
+///   or 2^32 bytes of the steps file were taken, and `Write` only at a fault of the sink. `Memory` may come at any point.
+/// - `Steps` comes exactly at the first ended line of the steps file that is no step, or takes the next mail where there
+///   is none; `Full` exactly at an arrival for which the mailbox has no place, or after 2^62 changes.
+/// - `NoChat` comes exactly where KEY is the text of no key in the list, and `NoApp` exactly where ID is the id of no
+///   shown app.
+///
+/// The shelf is not called.
 pub fn run<M: Source, S: Source, H: Shelf, C: Clock, K: Sink, L: Ledger>(
     alloc: Global,
     words: &[Text],
@@ -193,39 +294,43 @@ pub fn run<M: Source, S: Source, H: Shelf, C: Clock, K: Sink, L: Ledger>(
 ) -> Status
     // When each status comes.
     ensures usage { ComesWhere Status.Usage (IsNoRequest words.now) result }
-    ensures early { IfSome (early (request words.now) (is_some steps_file.entry)) (λ why. (result ≡ status_of why) ⊎ (result ≡ Status.Memory)) }
-    ensures read { result ≡ Status.Read → Rose (M.faults mbox.old) (M.faults mbox.new) }
+    ensures unbuilt { ComesWhere Status.Unbuilt (early (request words.now) ≡ Some refusal.Unbuilt) result }
     ensures write { result ≡ Status.Write → Rose (K.faults out.old) (K.faults out.new) }
-    // Where the bytes of the mbox are known, and the moment of a clock that is asked, any status but Read and Memory is
-    // that of the outcome.
-    ensures status { (bytes : List ℕ) (moment : ℕ) → M.left mbox.old ≡ Some bytes
-        → ClockGives (needs_clock (request words.now) (is_some steps_file.entry)) (C.next clock.old) moment
-        → Agrees (outcome words.now (is_some steps_file.entry) bytes moment) result }
+    // Where the bytes of the inputs are known, and the moment of a clock that is asked, any status but Read, Endless and
+    // Memory is that of the outcome.
+    ensures status { (bytes : Bytes) (lines : Option Bytes) (next : ℕ) → M.left mbox.old ≡ Some bytes → LentTells S.left steps_file.entry lines
+        → ClockGives (needs_clock (request words.now) (is_some steps_file.entry)) (C.next clock.old) next
+        → Agrees (outcome words.now bytes lines next) result }
 
     // What is put.
-    ensures answer { (bytes : List ℕ) (moment : ℕ) → M.left mbox.old ≡ Some bytes
-        → ClockGives (needs_clock (request words.now) (is_some steps_file.entry)) (C.next clock.old) moment
-        → PutsAnswer (K.held out.old) (K.held out.new) (outcome words.now (is_some steps_file.entry) bytes moment) result }
-    ensures line { PutsLine (K.held out.old) (K.held out.new) (Rose (M.faults mbox.old) (M.faults mbox.new))
+    ensures answer { (bytes : Bytes) (lines : Option Bytes) (next : ℕ) → M.left mbox.old ≡ Some bytes → LentTells S.left steps_file.entry lines
+        → ClockGives (needs_clock (request words.now) (is_some steps_file.entry)) (C.next clock.old) next
+        → PutsAnswer (K.held out.old) (K.held out.new) (outcome words.now bytes lines next) result }
+    ensures line { PutsLine (K.held out.old) (K.held out.new) (CauseOf (Rose (M.faults mbox.old) (M.faults mbox.new))
+        (IfLentAnd steps_file.entry steps_file.exit (λ before after. Rose (S.faults before) (S.faults after)))
+        (TakesAll (M.left mbox.old) (M.left mbox.new) mbox_budget)
+        (IfLentAnd steps_file.entry steps_file.exit (λ before after. TakesAll (S.left before) (S.left after) steps_budget)))
         (Rose (K.faults out.old) (K.faults out.new)) result }
 
-    // Where nothing fails, the answer comes, unless memory runs out.
-    ensures complete { (bytes text : List ℕ) (moment : ℕ) → M.left mbox.old ≡ Some bytes
-        → ClockGives (needs_clock (request words.now) (is_some steps_file.entry)) (C.next clock.old) moment
-        → outcome words.now (is_some steps_file.entry) bytes moment ≡ Ok text
+    // Where nothing fails and the inputs end, the answer comes, unless memory runs out.
+    ensures complete { (bytes text : Bytes) (lines : Option Bytes) (next : ℕ) → M.left mbox.old ≡ Some bytes → LentTells S.left steps_file.entry lines
+        → ClockGives (needs_clock (request words.now) (is_some steps_file.entry)) (C.next clock.old) next
+        → outcome words.now bytes lines next ≡ Ok text
+        → length bytes < mbox_budget → IfSome lines (λ lines. length lines < steps_budget)
         → ¬ Rose (M.faults mbox.old) (M.faults mbox.new) → ¬ Rose (K.faults out.old) (K.faults out.new)
+        → ¬ IfLentAnd steps_file.entry steps_file.exit (λ before after. Rose (S.faults before) (S.faults after))
         → (result ≡ Status.Ok × Appends (K.held out.old) (K.held out.new) text) ⊎ (result ≡ Status.Memory) }
 
     // What is asked of the devices.
-    ensures untouched { IfSome (early (request words.now) (is_some steps_file.entry)) (λ why. mbox.new ≡ mbox.old) }
-    ensures taken { (chunk : List ℕ) × (length chunk ≤ max_len + 1) × Consumes (M.left mbox.old) (M.left mbox.new) chunk }
-    ensures steps_file { IfLent steps_file.entry steps_file.exit (λ before after. after ≡ before) }
+    ensures untouched { IfSome (early (request words.now)) (λ why. mbox.new ≡ mbox.old) }
+    ensures steps_untouched { IfSome (early (request words.now)) (λ why. IfLent steps_file.entry steps_file.exit (λ before after. after ≡ before)) }
+    ensures mbox_took { TakesUpTo (M.left mbox.old) (M.left mbox.new) mbox_budget }
+    ensures steps_took { IfLent steps_file.entry steps_file.exit (λ before after. TakesUpTo (S.left before) (S.left after) steps_budget) }
     ensures shelf { shelf.new ≡ shelf.old }
     ensures clock { AsksClock C.asked (needs_clock (request words.now) (is_some steps_file.entry)) clock.old clock.new (result ≡ Status.Memory) }
-    ensures cost { steps.new ≡ steps.old }
 {
     match steps_file {
-        Some(_) => run_given(alloc, words, true, mbox, clock, out),
-        None => run_given(alloc, words, false, mbox, clock, out),
+        Some(steps_file) => run_given(alloc, words, true, mbox, steps_file, clock, out, steps),
+        None => run_given(alloc, words, false, mbox, &mut NoSource, clock, out, steps),
     }
 }

@@ -6,6 +6,7 @@ ghost use Rattle.std.specs.List.{list_all};
 ghost use Rattle.std.specs.Option.{option_copied};
 ghost use Rattle.follow.specs.Words.{is_value, joined, moment_of, moment_if_given, trial_of, sole, own_address};
 
+use answers::Question;
 use kit::{Addr, LAST_MOMENT, Memory, Text, number, strip_prefix};
 use mail_address::{Person, people};
 use std::alloc::Global;
@@ -172,7 +173,8 @@ impl<'a> Words<'a> {
 
 impl Command {
     ghost use Rattle.std.specs.Prelude.{◌≡◌, IfOk};
-    ghost use Rattle.follow.specs.Words.{of_name, of_value, of_info, command_of, is_list};
+    ghost use Rattle.follow.specs.Questions.{question_of};
+    ghost use Rattle.follow.specs.Words.{of_name, of_value, of_info, command_of};
 
     /// The command that is its name alone.
     fn of_name(name: &Text) -> Option<Command>
@@ -232,11 +234,17 @@ impl Command {
         }
     }
 
-    /// Whether this is the one command that is answered so far.
-    pub fn is_list(&self) -> bool
-        ensures { result ≡ is_list self.now }
+    /// What this command asks of a mailbox: nothing yet where it is a trial, or the updates that have an info alone.
+    pub fn question(self) -> Option<Question>
+        ensures { result ≡ question_of self }
     {
-        matches!(self, Command::List)
+        match self {
+            Command::List => Some(Question::List),
+            Command::Contacts => Some(Question::Contacts),
+            Command::Chat(key) => Some(Question::Chat(key)),
+            Command::Updates { id, info: false } => Some(Question::Updates(id)),
+            Command::Updates { info: true, .. } | Command::Trial(_) => None,
+        }
     }
 }
 

@@ -27,6 +27,7 @@ pub fn follow_mails<M: Source, L: Ledger>(
     ensures later { M.faults mbox.old ≤ M.faults mbox.new }
     ensures cause { IfErr result (IsTurnCause (Rose (M.faults mbox.old) (M.faults mbox.new)) ⊥ follower.new) }
     ensures took { (bytes : List ℕ) × mbox_reading.Takes (M.left mbox.old) (M.left mbox.new) follower.old.mbox follower.new.mbox bytes }
+    ensures lines { follower.new.lines ≡ follower.old.lines }
 {
     loop {
         match follower.turn_mail(mbox, steps)? {

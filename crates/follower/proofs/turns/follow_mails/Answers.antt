@@ -1,4 +1,4 @@
-use Rattle.std.proofs.Common.{arith, None}
+use Rattle.std.proofs.Common.{arith, None, ◌∙◌}
 use Rattle.follower.specs.Following.{ahead}
 use Rattle.follower.proofs.Going.{mail_came, mbox_takes, one_more}
 use Rattle.follower.proofs.turns.follow_mails.Goals as goal
@@ -12,6 +12,7 @@ loop-preserved g c =
     let past = c.loop.invariant in
     let turn = c.in_ok-turn_mail.ensures in record {
       usable = turn.usable;
+      lines = turn.lines ∙ past.lines;
       later = omega (arith, past.later, turn.later);
       took = mbox_takes (g.M.Source.left c.args.mbox.now) (g.M.Source.left c.loop.mbox) (g.M.Source.left c.turn_mail.new.mbox) c.args.follower.now.mbox c.loop.follower.mbox c.turn_mail.new.self.mbox past.took turn.took;
       goes = one_more (g.M.Source.left c.args.mbox.now) (g.M.Source.left c.loop.mbox) (g.M.Source.left c.turn_mail.new.mbox)

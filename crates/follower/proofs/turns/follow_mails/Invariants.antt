@@ -8,6 +8,7 @@ use Rattle.follower.proofs.turns.follow_mails.Given as goal
 abbrev pub invariant-loop : goal.invariant-loop
 invariant-loop g l = record {
   usable : IsUsable l.follower;
+  lines : l.follower.lines ≡ l.fn.follower.lines;
   later : g.M.Source.faults l.fn.mbox ≤ g.M.Source.faults l.mbox;
   took : (bytes : List ℕ) × mbox_reading.Takes (g.M.Source.left l.fn.mbox) (g.M.Source.left l.mbox) l.fn.follower.mbox l.follower.mbox bytes;
   goes : IfKnown (g.M.Source.left l.fn.mbox) (g.M.Source.left l.mbox) (λ before after. ahead None l.fn.follower before None ≡ ahead None l.follower after None);

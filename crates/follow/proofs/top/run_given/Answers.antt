@@ -1,0 +1,40 @@
+use Rattle.std.proofs.Common.{rules, ◌≡◌, ◌⊎◌, subst}
+use Rattle.outside.specs.Causes.{Rose}
+use Rattle.follow.specs.Outcome.{CauseOf, PutsWhole, TakesAll, mbox_budget, outcome, steps_budget}
+use Rattle.follow.specs.Statuses.{line_of, status_of}
+use Rattle.follow.specs.declared.status.Refusal.{Refusal}
+use Rattle.follow.specs.declared.status.Refusal.TheVariants as refusal
+use Rattle.follow.proofs.Clocks.{AsksClock-weaker}
+use Rattle.follow.proofs.Refused.{agrees_refused, not_memory, puts_refused, refused_line, said_memory}
+use Rattle.follow.proofs.top.run_given.Goals as goal
+
+pub returns-in-Ok-clause-clock : goal.returns-in-Ok-clause-clock
+returns-in-Ok-clause-clock g c = AsksClock-weaker _ _ _ _ _ _ (λ memory. absurd cc) c.in-Ok.ensures.clock
+
+pub returns-in-Err-clause-clock : goal.returns-in-Err-clause-clock
+returns-in-Err-clause-clock g c =
+    let is : c.in-Err.why ≡ refusal.Write = search rules in
+    AsksClock-weaker _ _ _ _ _ _ (λ memory. absurd (not_memory c.in-Err.why is memory)) c.in-Err.ensures.clock
+
+pub returns-in-Err-2-clause-status : goal.returns-in-Err-2-clause-status
+returns-in-Err-2-clause-status g c = λ bytes lines next known told gives.
+    agrees_refused (outcome c.args.words.now bytes lines next) (g.K.Sink.held c.args.out.now) (g.K.Sink.held c.reply.new.out) c.in-Err.why c.refuse.result
+    (c.in-Err.ensures.puts bytes lines next known told gives) c.refuse.ensures.status
+
+pub returns-in-Err-2-clause-answer : goal.returns-in-Err-2-clause-answer
+returns-in-Err-2-clause-answer g c = λ bytes lines next known told gives.
+    let other : c.in-Err.why ≡ refusal.Write → ⊥ = search rules in
+    puts_refused (outcome c.args.words.now bytes lines next) (g.K.Sink.held c.args.out.now) (g.K.Sink.held c.refuse.new.out) c.in-Err.why c.refuse.result other c.refuse.ensures.status
+
+pub returns-in-Err-2-clause-line : goal.returns-in-Err-2-clause-line
+returns-in-Err-2-clause-line g c =
+    let other : c.in-Err.why ≡ refusal.Write → ⊥ = search rules in
+    let cause : Refusal → Type 0 = CauseOf (Rose (g.M.Source.faults c.args.mbox.now) (g.M.Source.faults c.reply.new.mbox)) (Rose (g.S.Source.faults c.args.steps_file.now) (g.S.Source.faults c.reply.new.steps_file))
+    (TakesAll (g.M.Source.left c.args.mbox.now) (g.M.Source.left c.reply.new.mbox) mbox_budget) (TakesAll (g.S.Source.left c.args.steps_file.now) (g.S.Source.left c.reply.new.steps_file) steps_budget) in
+    refused_line (g.K.Sink.held c.args.out.now) (g.K.Sink.held c.refuse.new.out) cause (Rose (g.K.Sink.faults c.args.out.now) (g.K.Sink.faults c.refuse.new.out)) c.in-Err.why c.refuse.result c.in-Err.ensures.cause tt
+    (subst (λ before. (said : Refusal) × (c.refuse.result ≡ status_of said) × ((said ≡ c.in-Err.why) ⊎ (said ≡ refusal.Memory))
+    × PutsWhole (g.K.Sink.held before) (g.K.Sink.held c.refuse.new.out) (line_of said) (Rose (g.K.Sink.faults before) (g.K.Sink.faults c.refuse.new.out)))
+    (c.in-Err.ensures.nothing other) c.refuse.ensures.line)
+
+pub returns-in-Err-2-clause-clock : goal.returns-in-Err-2-clause-clock
+returns-in-Err-2-clause-clock g c = AsksClock-weaker _ _ _ _ _ _ (λ memory. said_memory c.in-Err.why c.refuse.result c.refuse.ensures.status memory) c.in-Err.ensures.clock
