@@ -2,7 +2,6 @@
 ghost use Rattle.std.specs.Prelude.{◌≡◌, ◌<◌};
 
 use crate::made::{addr, id, key};
-use crate::mails::*;
 use chat_card::{CardFault, read_card};
 use chat_print::{print_chat, print_contacts, print_list, print_updates};
 use engine::{ApplyFault, AskFault, Engine};
@@ -15,6 +14,7 @@ use std::process::Abort;
 use std::str;
 use std::sync::ledger::{Blank, Ledger};
 use std::test::Fail;
+use worked_mails::*;
 
 /// 2024-05-01 12:00:00 UTC.
 const NOON: u64 = 1_714_564_800;

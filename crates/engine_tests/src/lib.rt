@@ -6,6 +6,4 @@ mod asked;
 #[cfg(test)]
 mod made;
 #[cfg(test)]
-mod mails;
-#[cfg(test)]
 mod trial;

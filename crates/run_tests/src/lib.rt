@@ -1,4 +1,4 @@
-//! Tests of the devices, of images and of whole runs. It has no code of its own.
+//! Tests of the devices, of images, of slots and of whole runs. It has no code of its own.
 #![tactic(auto)]
 
 #[cfg(test)]
@@ -10,6 +10,12 @@ mod images;
 #[cfg(test)]
 mod real_files;
 #[cfg(test)]
+mod rows;
+#[cfg(test)]
 mod runs;
+#[cfg(test)]
+mod slots;
+#[cfg(test)]
+mod steps;
 #[cfg(test)]
 mod words;

@@ -11,6 +11,10 @@ use std::test::Fail;
 const USAGE: &str =
     "chats: usage: --me ADDR [--at N] list | chat KEY | contacts | updates ID [--info] | trial N\n";
 
+const NO_CHAT: &str = "chats: no such chat\n";
+
+const NO_APP: &str = "chats: no such app\n";
+
 /// Words, with a space between each two, that are no command.
 const NO_COMMANDS: [&str; 41] = [
     "list",
@@ -57,16 +61,46 @@ const NO_COMMANDS: [&str; 41] = [
 ];
 
 /// Words of commands that are not answered yet.
-const NOT_BUILT: [&str; 9] = [
-    "--me me@x.org contacts",
-    "--me me@x.org chat single:bob@x.org",
-    "--me me@x.org chat -",
-    "--me me@x.org --at 1714564800 updates m1@x.org",
+const NOT_BUILT: [&str; 5] = [
     "--me me@x.org updates m1@x.org --info",
     "--me me@x.org updates --info m1@x.org",
     "--me me@x.org trial 7",
     "--me me@x.org trial 00000000000000000007",
     "--me me@x.org trial 18446744073709551615",
+];
+
+/// Words that ask for a chat or an app that is not there, and the status.
+const NOT_THERE: [(&str, Status, &str); 6] = [
+    (
+        "--me me@x.org --at 1714564800 chat group:unknown00001",
+        Status::NoChat,
+        NO_CHAT,
+    ),
+    (
+        "--me me@x.org --at 1714564800 chat -",
+        Status::NoChat,
+        NO_CHAT,
+    ),
+    (
+        "--me me@x.org --at 1714564800 chat single:BOB@x.org",
+        Status::NoChat,
+        NO_CHAT,
+    ),
+    (
+        "--me me@x.org --at 1714564800 updates m1@x.org",
+        Status::NoApp,
+        NO_APP,
+    ),
+    (
+        "--me me@x.org --at 1714564800 updates m2@x.org",
+        Status::NoApp,
+        NO_APP,
+    ),
+    (
+        "--me me@x.org --at 1714564800 updates <m1@x.org>",
+        Status::NoApp,
+        NO_APP,
+    ),
 ];
 
 /// Words that list the chats at one moment.
@@ -110,6 +144,17 @@ fn commands_that_are_not_answered_yet(rt: HostRuntime) -> Result<(), Fail> {
         let (end, text) = ended(alloc, &words, &mut mbox, None, NEVER)?;
         assert_eq!(rt; end, Status::Unbuilt, "{line}");
         assert_eq!(rt; text.as_str(), UNBUILT);
+    }
+    Ok(())
+}
+
+#[test]
+fn chats_and_apps_that_are_not_there(rt: HostRuntime) -> Result<(), Fail> {
+    let alloc = rt.alloc();
+    for (line, status, put) in NOT_THERE {
+        let (end, text) = run_line(alloc, line)?;
+        assert_eq!(rt; text.as_str(), put, "{line}");
+        assert_eq!(rt; end, status);
     }
     Ok(())
 }
@@ -164,7 +209,8 @@ fn the_clock_is_asked_once_where_no_moment_is_given(rt: HostRuntime) -> Result<(
     let cases = [
         ("--me me@x.org list", 1, early),
         ("--me me@x.org --at 1714564800 list", 0, M1_LINE),
-        ("--me me@x.org contacts", 0, UNBUILT),
+        ("--me me@x.org contacts", 1, "bob@x.org | Bob\n"),
+        ("--me me@x.org trial 7", 0, UNBUILT),
         ("--me nobody list", 0, USAGE),
     ];
     for (line, asked, put) in cases {

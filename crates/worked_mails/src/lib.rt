@@ -1,7 +1,8 @@
-//! Mails, byte by byte.
+//! The mails of the worked rows, byte by byte.
+#![tactic(auto)]
 
 /// A mail to oneself.
-pub(crate) const M1: &str = "\
+pub const M1: &str = "\
      From: Bob <bob@x.org>\n\
      To: me@x.org\n\
      Date: Wed, 01 May 2024 10:00:00 +0000\n\
@@ -11,7 +12,7 @@ pub(crate) const M1: &str = "\
      Hi\n";
 
 /// An earlier copy of it.
-pub(crate) const M2: &str = "\
+pub const M2: &str = "\
      From: Bob <bob@x.org>\n\
      To: me@x.org\n\
      Date: Wed, 01 May 2024 09:00:00 +0000\n\
@@ -21,7 +22,7 @@ pub(crate) const M2: &str = "\
      Hi there\n";
 
 /// An edit of it.
-pub(crate) const E1: &str = "\
+pub const E1: &str = "\
      From: Bob <bob@x.org>\n\
      To: me@x.org\n\
      Date: Wed, 01 May 2024 10:05:00 +0000\n\
@@ -33,7 +34,7 @@ pub(crate) const E1: &str = "\
      \u{270f}\u{fe0f}Hello\n";
 
 /// An earlier edit.
-pub(crate) const E2: &str = "\
+pub const E2: &str = "\
      From: Bob <bob@x.org>\n\
      To: me@x.org\n\
      Date: Wed, 01 May 2024 10:03:00 +0000\n\
@@ -45,7 +46,7 @@ pub(crate) const E2: &str = "\
      \u{270f}\u{fe0f}Hey\n";
 
 /// An edit by a stranger.
-pub(crate) const X1: &str = "\
+pub const X1: &str = "\
      From: eve@x.org\n\
      To: me@x.org\n\
      Date: Wed, 01 May 2024 10:06:00 +0000\n\
@@ -56,7 +57,7 @@ pub(crate) const X1: &str = "\
      No\n";
 
 /// A stranger takes it back.
-pub(crate) const X2: &str = "\
+pub const X2: &str = "\
      From: eve@x.org\n\
      To: me@x.org\n\
      Date: Wed, 01 May 2024 10:06:00 +0000\n\
@@ -67,7 +68,7 @@ pub(crate) const X2: &str = "\
      No\n";
 
 /// A mail that vanishes.
-pub(crate) const T1: &str = "\
+pub const T1: &str = "\
      From: bob@x.org\n\
      To: me@x.org\n\
      Date: Wed, 01 May 2024 10:00:00 +0000\n\
@@ -78,7 +79,7 @@ pub(crate) const T1: &str = "\
      Secret\n";
 
 /// A mail of one's own.
-pub(crate) const O1: &str = "\
+pub const O1: &str = "\
      From: me@x.org\n\
      To: bob@x.org\n\
      Date: Wed, 01 May 2024 10:00:00 +0000\n\
@@ -89,7 +90,7 @@ pub(crate) const O1: &str = "\
      Dinner?\n";
 
 /// A receipt for it.
-pub(crate) const N1: &str = "\
+pub const N1: &str = "\
      From: bob@x.org\n\
      To: me@x.org\n\
      Date: Wed, 01 May 2024 10:09:00 +0000\n\
@@ -109,7 +110,7 @@ pub(crate) const N1: &str = "\
      --b--\n";
 
 /// An earlier one.
-pub(crate) const N2: &str = "\
+pub const N2: &str = "\
      From: bob@x.org\n\
      To: me@x.org\n\
      Date: Wed, 01 May 2024 10:04:00 +0000\n\
@@ -129,7 +130,7 @@ pub(crate) const N2: &str = "\
      --b--\n";
 
 /// The first mail of a group.
-pub(crate) const G0: &str = "\
+pub const G0: &str = "\
      From: bob@x.org\n\
      To: me@x.org, dan@x.org\n\
      Date: Wed, 01 May 2024 08:50:00 +0000\n\
@@ -141,7 +142,7 @@ pub(crate) const G0: &str = "\
      First\n";
 
 /// A later one.
-pub(crate) const G1: &str = "\
+pub const G1: &str = "\
      From: ann@x.org\n\
      To: me@x.org, bob@x.org\n\
      Date: Wed, 01 May 2024 09:00:00 +0000\n\
@@ -153,7 +154,7 @@ pub(crate) const G1: &str = "\
      Welcome\n";
 
 /// It takes somebody in.
-pub(crate) const G2: &str = "\
+pub const G2: &str = "\
      From: ann@x.org\n\
      To: me@x.org, bob@x.org, cid@x.org\n\
      Date: Wed, 01 May 2024 09:10:00 +0000\n\
@@ -166,7 +167,7 @@ pub(crate) const G2: &str = "\
      Cid is here\n";
 
 /// It drops somebody.
-pub(crate) const G3: &str = "\
+pub const G3: &str = "\
      From: ann@x.org\n\
      To: me@x.org, bob@x.org, cid@x.org\n\
      Date: Wed, 01 May 2024 09:20:00 +0000\n\
@@ -179,7 +180,7 @@ pub(crate) const G3: &str = "\
      Bob left\n";
 
 /// An outsider gives the group a name.
-pub(crate) const G4: &str = "\
+pub const G4: &str = "\
      From: bob@x.org\n\
      To: me@x.org, ann@x.org\n\
      Date: Wed, 01 May 2024 09:25:00 +0000\n\
@@ -192,7 +193,7 @@ pub(crate) const G4: &str = "\
      Mine\n";
 
 /// An answer to the group.
-pub(crate) const R1: &str = "\
+pub const R1: &str = "\
      From: bob@x.org\n\
      To: me@x.org, ann@x.org\n\
      Date: Wed, 01 May 2024 09:30:00 +0000\n\
@@ -203,7 +204,7 @@ pub(crate) const R1: &str = "\
      Count me in\n";
 
 /// An answer to that.
-pub(crate) const R2: &str = "\
+pub const R2: &str = "\
      From: ann@x.org\n\
      To: me@x.org, bob@x.org\n\
      Date: Wed, 01 May 2024 09:40:00 +0000\n\
@@ -213,7 +214,7 @@ pub(crate) const R2: &str = "\
      Good\n";
 
 /// Another answer to the group.
-pub(crate) const R3: &str = "\
+pub const R3: &str = "\
      From: bob@x.org\n\
      To: me@x.org, ann@x.org, zoe@x.org\n\
      Date: Wed, 01 May 2024 09:50:00 +0000\n\
@@ -224,7 +225,7 @@ pub(crate) const R3: &str = "\
      Me too\n";
 
 /// An app.
-pub(crate) const A1: &str = "\
+pub const A1: &str = "\
      From: bob@x.org\n\
      To: me@x.org\n\
      Date: Wed, 01 May 2024 10:50:00 +0000\n\
@@ -245,7 +246,7 @@ pub(crate) const A1: &str = "\
      --d--\n";
 
 /// Its first update.
-pub(crate) const U1: &str = "\
+pub const U1: &str = "\
      From: bob@x.org\n\
      To: me@x.org\n\
      Date: Wed, 01 May 2024 11:00:00 +0000\n\
@@ -266,7 +267,7 @@ pub(crate) const U1: &str = "\
      --d--\n";
 
 /// Its second.
-pub(crate) const U2: &str = "\
+pub const U2: &str = "\
      From: bob@x.org\n\
      To: me@x.org\n\
      Date: Wed, 01 May 2024 11:10:00 +0000\n\
@@ -287,7 +288,7 @@ pub(crate) const U2: &str = "\
      --d--\n";
 
 /// Its third.
-pub(crate) const U3: &str = "\
+pub const U3: &str = "\
      From: bob@x.org\n\
      To: me@x.org\n\
      Date: Wed, 01 May 2024 11:20:00 +0000\n\
@@ -308,7 +309,7 @@ pub(crate) const U3: &str = "\
      --d--\n";
 
 /// Its sender takes it back.
-pub(crate) const X3: &str = "\
+pub const X3: &str = "\
      From: bob@x.org\n\
      To: me@x.org\n\
      Date: Wed, 01 May 2024 12:00:00 +0000\n\
@@ -319,7 +320,7 @@ pub(crate) const X3: &str = "\
      Gone\n";
 
 /// A mail without a sender.
-pub(crate) const F1: &str = "\
+pub const F1: &str = "\
      To: me@x.org\n\
      Date: Wed, 01 May 2024 10:00:00 +0000\n\
      Message-ID: <m1@x.org>\n\
@@ -328,7 +329,7 @@ pub(crate) const F1: &str = "\
      Hi\n";
 
 /// A mail without an id, of a year to come.
-pub(crate) const F2: &str = "\
+pub const F2: &str = "\
      From: bob@x.org\n\
      To: me@x.org\n\
      Date: Wed, 01 May 2030 10:00:00 +0000\n\
@@ -337,7 +338,7 @@ pub(crate) const F2: &str = "\
      Late\n";
 
 /// The first mail of a thread, with a file.
-pub(crate) const H1: &str = "\
+pub const H1: &str = "\
      From: Ann <ann@x.org>\n\
      To: me@x.org, Bob <bob@x.org>\n\
      Date: Thu, 02 May 2024 08:00:00 +0000\n\
@@ -367,7 +368,7 @@ pub(crate) const H1: &str = "\
      --o--\n";
 
 /// An answer to it.
-pub(crate) const H2: &str = "\
+pub const H2: &str = "\
      From: Bob <bob@x.org>\n\
      To: ann@x.org, me@x.org\n\
      Date: Thu, 02 May 2024 08:30:00 +0000\n\
@@ -388,7 +389,7 @@ pub(crate) const H2: &str = "\
      --i--\n";
 
 /// One's own answer to that.
-pub(crate) const H3: &str = "\
+pub const H3: &str = "\
      From: me@x.org\n\
      To: ann@x.org\n\
      Cc: bob@x.org\n\
@@ -401,7 +402,7 @@ pub(crate) const H3: &str = "\
      Agreed.\n";
 
 /// An app in a group.
-pub(crate) const G5: &str = "\
+pub const G5: &str = "\
      From: Ann <ann@x.org>\n\
      To: me@x.org, bob@x.org\n\
      Date: Thu, 02 May 2024 10:00:00 +0000\n\
@@ -424,7 +425,7 @@ pub(crate) const G5: &str = "\
      --d--\n";
 
 /// An encrypted mail.
-pub(crate) const C1: &str = "\
+pub const C1: &str = "\
      From: Bob <bob@x.org>\n\
      To: me@x.org\n\
      Date: Thu, 02 May 2024 11:00:00 +0000\n\

@@ -1,0 +1,430 @@
+//! Two slots over the shelf in memory: the bytes that are written, damage, and a stop at each call.
+use box_state::Mailbox;
+use checkpoint::{Opened, SlotFault, Slots};
+use outside::{Failed, Place, Shelf};
+use shelves::{Crash, Did, MemoryShelf, ShelfCall};
+use state_image::Position;
+use std::alloc::Global;
+use std::test::Fail;
+
+/// The image of a mailbox with one mail from Bob, after two changes.
+const M1_IMAGE: &[u8] =
+    b"CHATSIM1\0\0\0\x08me@x.org\0\0\0\0\0\0\0\x02\0\0\0\0\0\0\0\x7e\0\0\0\0\0\0\0\0\0\0\0\0\0\0\0\0\0\0\0\0f2.\xc0\0\0\0\x02\0\0\0\x01\0\0\0\x01\0\0\0\0f2.\xc0\0\0\0\0\0\x08m1@x.org\0\0\0\x09bob@x.org\0\0\0\x03Bob\0\0\0\x01\0\0\0\x08me@x.org\0\0\0\0\x01\0\0\0\0f2\x12\xa0\0\0\0\0\0\0\0\0\x01\0\0\0\0\0\0\0\0\0\0\0\0\0\0\0\0\0\0\0\0\0\0\0\0\x02Hi\0\0\0\0\0\0\0\0\0\0\0";
+
+/// The image of an empty mailbox after two changes.
+const TWO: &[u8] =
+    b"CHATSIM1\0\0\0\x08me@x.org\0\0\0\0\0\0\0\x02\0\0\0\0\0\0\0\0\0\0\0\0\0\0\0\0\0\0\0\0\0\0\0\0\0\0\0\0f2.\xc0\0\0\0\x01\0\0\0\0";
+
+/// The same after three.
+const THREE: &[u8] =
+    b"CHATSIM1\0\0\0\x08me@x.org\0\0\0\0\0\0\0\x03\0\0\0\0\0\0\0\0\0\0\0\0\0\0\0\0\0\0\0\0\0\0\0\0\0\0\0\0f2.\xc0\0\0\0\x01\0\0\0\0";
+
+/// No image.
+const NONE: &[u8] = b"CHATSIM0";
+
+/// A gate, a number, the length of an image and the image. Both numbers are small.
+fn slot(alloc: Global, gate: u8, number: u8, image: &[u8]) -> Result<Vec<u8>, Fail> {
+    let mut bytes = Vec::new(alloc);
+    bytes.push(gate)?;
+    bytes.extend_from_slice(&[0, 0, 0, 0, 0, 0, 0, number])?;
+    bytes.extend_from_slice(&[0, 0, 0, 0, 0, 0, 0, image.len() as u8])?;
+    bytes.extend_from_slice(image)?;
+    Ok(bytes)
+}
+
+/// A shelf of two such contents with room for 240 bytes in each place and for 32 calls, which fail from the number `stop` on.
+fn shelf_of(alloc: Global, a: &[u8], b: &[u8], stop: Option<u64>) -> Result<MemoryShelf, Fail> {
+    if a.len() > 240 || b.len() > 240 {
+        return Err(Fail::from("no room"));
+    }
+    let fails = Vec::new(alloc);
+    Ok(MemoryShelf::new(alloc, a, b, &[], 240, 32, fails, stop)?)
+}
+
+/// The count that is kept, where anything is.
+fn kept_count<H: Shelf>(alloc: Global, shelf: &mut H) -> Result<Option<u64>, SlotFault> {
+    let opened = Slots::open(alloc, shelf)?;
+    Ok(count_of(&opened.kept))
+}
+
+fn count_of(kept: &Option<(Mailbox, Position)>) -> Option<u64> {
+    match kept {
+        Some((_, position)) => Some(position.count),
+        None => None,
+    }
+}
+
+/// What is kept in a shelf of two contents.
+fn kept_in(alloc: Global, a: &[u8], b: &[u8]) -> Result<Result<Option<u64>, SlotFault>, Fail> {
+    let mut shelf = shelf_of(alloc, a, b, None)?;
+    Ok(kept_count(alloc, &mut shelf))
+}
+
+/// Opens the slots, and saves an image where its number is greater than the count that is kept. It answers whether it was
+/// saved.
+fn save(alloc: Global, shelf: &mut MemoryShelf, number: u64, image: &[u8]) -> bool {
+    let Ok(Opened { mut slots, kept }) = Slots::open(alloc, shelf) else {
+        return false;
+    };
+    if let Some(count) = count_of(&kept)
+        && number <= count
+    {
+        return false;
+    }
+    slots.save(shelf, number, image).is_ok()
+}
+
+#[test]
+fn the_first_save_writes_207_bytes_to_a(rt: HostRuntime) -> Result<(), Fail> {
+    let alloc = rt.alloc();
+    let mut shelf = shelf_of(alloc, &[], &[], None)?;
+    assert!(rt; save(alloc, &mut shelf, 2, M1_IMAGE));
+    let whole = slot(alloc, 1, 2, M1_IMAGE)?;
+    assert_eq!(rt; shelf.bytes(Place::A), whole.as_slice());
+    assert_eq!(rt; shelf.bytes(Place::A).len(), 207);
+    assert_eq!(rt; shelf.bytes(Place::B).len(), 0);
+    assert_eq!(rt; shelf.bytes(Place::T).len(), 0);
+    Ok(())
+}
+
+fn called(did: Did, place: Place, at: u64, len: u64) -> ShelfCall {
+    ShelfCall {
+        did,
+        place,
+        at,
+        len,
+    }
+}
+
+/// The calls of an opening, and of a save of 68 bytes to A.
+const CALLS: [(Did, Place, u64, u64); 14] = [
+    (Did::Sync, Place::A, 0, 0),
+    (Did::Sync, Place::B, 0, 0),
+    (Did::Size, Place::A, 0, 0),
+    (Did::Read, Place::A, 0, 17),
+    (Did::Size, Place::B, 0, 0),
+    (Did::Read, Place::B, 0, 17),
+    (Did::Write, Place::A, 0, 1),
+    (Did::Sync, Place::A, 0, 0),
+    (Did::Write, Place::A, 1, 8),
+    (Did::Write, Place::A, 9, 8),
+    (Did::Write, Place::A, 17, 68),
+    (Did::Sync, Place::A, 0, 0),
+    (Did::Write, Place::A, 0, 1),
+    (Did::Sync, Place::A, 0, 0),
+];
+
+#[test]
+fn a_save_closes_the_gate_fills_and_opens_it(rt: HostRuntime) -> Result<(), Fail> {
+    let alloc = rt.alloc();
+    let mut shelf = shelf_of(alloc, &[], &[], None)?;
+    assert!(rt; save(alloc, &mut shelf, 2, TWO));
+    assert_eq!(rt; shelf.calls().len(), CALLS.len());
+    for (call, (did, place, at, len)) in shelf.calls().iter().zip(CALLS) {
+        assert_eq!(rt; *call, called(did, place, at, len));
+    }
+    Ok(())
+}
+
+#[test]
+fn what_was_saved_is_kept(rt: HostRuntime) -> Result<(), Fail> {
+    let alloc = rt.alloc();
+    let mut shelf = shelf_of(alloc, &[], &[], None)?;
+    assert!(rt; save(alloc, &mut shelf, 2, M1_IMAGE));
+    let (mailbox, position) = Slots::open(alloc, &mut shelf)?.kept.ok_or("nothing")?;
+    assert_eq!(rt; position.count, 2);
+    assert_eq!(rt; position.mbox, 126);
+    assert_eq!(rt; mailbox.me().bytes(), b"me@x.org".as_slice());
+    assert_eq!(rt; mailbox.items().len(), 1);
+    Ok(())
+}
+
+/// An offset in a slot of two changes, the byte there, and where the slot is damaged then.
+const DAMAGES: [(usize, u8, u64); 6] = [
+    (8, 3, 1),
+    (17, 0, 17),
+    (24, b'2', 17),
+    (28, 9, 25),
+    (44, 0, 37),
+    (84, 1, 85),
+];
+
+/// A slot of two changes with another byte at this offset.
+fn damaged(alloc: Global, offset: usize, byte: u8) -> Result<Vec<u8>, Fail> {
+    let mut bytes = slot(alloc, 1, 2, TWO)?;
+    match bytes.get_mut(offset) {
+        Some(place) => *place = byte,
+        None => return Err(Fail::from("too far")),
+    }
+    Ok(bytes)
+}
+
+#[test]
+fn damage_has_its_place_and_its_offset(rt: HostRuntime) -> Result<(), Fail> {
+    let alloc = rt.alloc();
+    for (offset, byte, at) in DAMAGES {
+        let bytes = damaged(alloc, offset, byte)?;
+        assert_eq!(rt;
+            kept_in(alloc, &bytes, &[])?,
+            Err(SlotFault::Damaged(Place::A, at))
+        );
+        assert_eq!(rt;
+            kept_in(alloc, &[], &bytes)?,
+            Err(SlotFault::Damaged(Place::B, at))
+        );
+    }
+    Ok(())
+}
+
+#[test]
+fn a_slot_that_is_not_open_is_not_read(rt: HostRuntime) -> Result<(), Fail> {
+    let alloc = rt.alloc();
+    let whole = slot(alloc, 1, 2, TWO)?;
+    let closed = slot(alloc, 0, 2, TWO)?;
+    let gate_7 = slot(alloc, 7, 2, TWO)?;
+    let no_image = slot(alloc, 1, 2, &[])?;
+    for bytes in [
+        b"".as_slice(),
+        b"\x01".as_slice(),
+        closed.as_slice(),
+        gate_7.as_slice(),
+        whole.split_last().ok_or("no byte")?.1,
+        no_image.split_last().ok_or("no byte")?.1,
+    ] {
+        assert_eq!(rt; kept_in(alloc, bytes, &[])?, Ok(None));
+        assert_eq!(rt; kept_in(alloc, &[], bytes)?, Ok(None));
+    }
+    Ok(())
+}
+
+#[test]
+fn what_follows_a_slot_is_not_read(rt: HostRuntime) -> Result<(), Fail> {
+    let alloc = rt.alloc();
+    let mut bytes = slot(alloc, 1, 2, TWO)?;
+    bytes.extend_from_slice(b"and more")?;
+    assert_eq!(rt; kept_in(alloc, &bytes, &[])?, Ok(Some(2)));
+    Ok(())
+}
+
+#[test]
+fn the_greater_number_is_chosen_and_a_where_they_are_equal(rt: HostRuntime) -> Result<(), Fail> {
+    let alloc = rt.alloc();
+    let two = slot(alloc, 1, 2, TWO)?;
+    let three = slot(alloc, 1, 3, THREE)?;
+    let no_two = slot(alloc, 1, 2, NONE)?;
+    let no_three = slot(alloc, 1, 3, NONE)?;
+    let in_a = Err(SlotFault::Damaged(Place::A, 17));
+    let in_b = Err(SlotFault::Damaged(Place::B, 17));
+    assert_eq!(rt; kept_in(alloc, &no_two, &three)?, Ok(Some(3)));
+    assert_eq!(rt; kept_in(alloc, &three, &no_two)?, Ok(Some(3)));
+    assert_eq!(rt; kept_in(alloc, &two, &no_three)?, in_b);
+    assert_eq!(rt; kept_in(alloc, &no_three, &two)?, in_a);
+    assert_eq!(rt; kept_in(alloc, &two, &no_two)?, Ok(Some(2)));
+    assert_eq!(rt; kept_in(alloc, &no_two, &two)?, in_a);
+    Ok(())
+}
+
+/// The first write to a shelf.
+fn first_write(shelf: &MemoryShelf) -> Option<ShelfCall> {
+    shelf
+        .calls()
+        .iter()
+        .find(|call| call.did == Did::Write)
+        .copied()
+}
+
+#[test]
+fn a_closed_gate_is_not_written_again(rt: HostRuntime) -> Result<(), Fail> {
+    let alloc = rt.alloc();
+    for gate in [0, 7] {
+        let three = slot(alloc, gate, 3, THREE)?;
+        let two = slot(alloc, 1, 2, TWO)?;
+        let mut shelf = shelf_of(alloc, &three, &two, None)?;
+        assert!(rt; save(alloc, &mut shelf, 3, THREE));
+        assert_eq!(rt;
+            first_write(&shelf),
+            Some(called(Did::Write, Place::A, 1, 8))
+        );
+        assert_eq!(rt; kept_count(alloc, &mut shelf), Ok(Some(3)));
+    }
+    Ok(())
+}
+
+const CRASHES: [Crash; 3] = [Crash::Old, Crash::New, Crash::Ones];
+
+/// What is done where a run stops: three changes are saved, after the number of calls that this takes.
+#[derive(Clone, Copy)]
+struct Stopped<'a> {
+    a: &'a [u8],
+    b: &'a [u8],
+    /// The count that is kept in these.
+    old: Option<u64>,
+    calls: u64,
+}
+
+/// Saves three changes again on what a crash leaves, where it did not leave them. It answers the count that was left.
+fn save_again(alloc: Global, shelf: &MemoryShelf, crash: Crash) -> Result<Option<u64>, Fail> {
+    let mut left = shelf.crash(crash)?;
+    let count = kept_count(alloc, &mut left)?;
+    if count == Some(3) {
+        return Ok(count);
+    }
+    if save(alloc, &mut left, 3, THREE) && kept_count(alloc, &mut left)? == Some(3) {
+        Ok(count)
+    } else {
+        Err(Fail::from("not saved"))
+    }
+}
+
+/// Whether a run that is stopped at this call leaves, after each crash, what was kept or what was saved, and only what was
+/// saved where it was.
+fn leaves_old_or_new(alloc: Global, run: Stopped<'_>, stop: u64) -> Result<bool, Fail> {
+    let mut shelf = shelf_of(alloc, run.a, run.b, Some(stop))?;
+    let saved = save(alloc, &mut shelf, 3, THREE);
+    for crash in CRASHES {
+        let count = save_again(alloc, &shelf, crash)?;
+        if count != Some(3) && (saved || count != run.old) {
+            return Ok(false);
+        }
+    }
+    Ok(saved == (run.calls < stop))
+}
+
+#[test]
+fn a_first_save_is_stopped_at_each_call(rt: HostRuntime) -> Result<(), Fail> {
+    let run = Stopped {
+        a: &[],
+        b: &[],
+        old: None,
+        calls: 14,
+    };
+    for stop in 1..17 {
+        assert!(rt;
+            leaves_old_or_new(rt.alloc(), run, stop)?,
+            "stopped at {stop}"
+        );
+    }
+    Ok(())
+}
+
+#[test]
+fn a_save_over_an_older_slot_is_stopped_at_each_call(rt: HostRuntime) -> Result<(), Fail> {
+    let alloc = rt.alloc();
+    let older = slot(alloc, 1, 1, M1_IMAGE)?;
+    let two = slot(alloc, 1, 2, TWO)?;
+    let run = Stopped {
+        a: &older,
+        b: &two,
+        old: Some(2),
+        calls: 15,
+    };
+    for stop in 1..18 {
+        assert!(rt; leaves_old_or_new(alloc, run, stop)?, "stopped at {stop}");
+    }
+    Ok(())
+}
+
+#[test]
+fn a_save_over_a_torn_body_is_stopped_at_each_call(rt: HostRuntime) -> Result<(), Fail> {
+    let alloc = rt.alloc();
+    let two = slot(alloc, 1, 2, TWO)?;
+    let torn = slot(alloc, 0, 9, NONE)?;
+    let run = Stopped {
+        a: &two,
+        b: &torn,
+        old: Some(2),
+        calls: 13,
+    };
+    for stop in 1..16 {
+        assert!(rt; leaves_old_or_new(alloc, run, stop)?, "stopped at {stop}");
+    }
+    Ok(())
+}
+
+/// What a first save leaves that was stopped at a call and torn to bytes 1, and the first write when it is saved again.
+fn torn_first_save(alloc: Global, stop: u64) -> Result<(Vec<u8>, Option<ShelfCall>), Fail> {
+    let mut shelf = shelf_of(alloc, &[], &[], Some(stop))?;
+    if save(alloc, &mut shelf, 3, THREE) {
+        return Err(Fail::from("not stopped"));
+    }
+    let mut left = shelf.crash(Crash::Ones)?;
+    let bytes = left.bytes(Place::A).to_vec(alloc)?;
+    if !save(alloc, &mut left, 3, THREE) {
+        return Err(Fail::from("not saved"));
+    }
+    Ok((bytes, first_write(&left)))
+}
+
+#[test]
+fn a_first_gate_byte_torn_to_1_is_no_slot(rt: HostRuntime) -> Result<(), Fail> {
+    let (bytes, write) = torn_first_save(rt.alloc(), 8)?;
+    assert_eq!(rt; bytes.as_slice(), [1].as_slice());
+    assert_eq!(rt; write, Some(called(Did::Write, Place::A, 0, 1)));
+    Ok(())
+}
+
+#[test]
+fn a_torn_body_is_written_over_from_offset_1_on(rt: HostRuntime) -> Result<(), Fail> {
+    let (bytes, write) = torn_first_save(rt.alloc(), 12)?;
+    assert_eq!(rt; bytes.first(), Some(&0));
+    assert_eq!(rt; bytes.get(1), Some(&1));
+    assert_eq!(rt; write, Some(called(Did::Write, Place::A, 1, 8)));
+    Ok(())
+}
+
+#[test]
+fn a_shelf_that_fails_opens_nothing(rt: HostRuntime) -> Result<(), Fail> {
+    let mut shelf = shelf_of(rt.alloc(), &[], &[], Some(6))?;
+    assert_eq!(rt; kept_count(rt.alloc(), &mut shelf), Err(SlotFault::Disk));
+    Ok(())
+}
+
+/// A shelf with one open slot in B whose image would be longer than any may be. It has none of its bytes.
+#[derive(Drop)]
+struct LongImage;
+
+/// The gate, the number 5 and the length 1,073,741,825.
+const LONG: [u8; 17] = [1, 0, 0, 0, 0, 0, 0, 0, 5, 0, 0, 0, 0, 64, 0, 0, 1];
+
+impl Shelf for LongImage {
+    ghost faults = { λ _. 0 };
+
+    fn size(&mut self, place: Place) -> Result<u64, Failed> {
+        Ok(if place == Place::B { 1_073_741_842 } else { 0 })
+    }
+
+    fn read(&mut self, place: Place, _at: u64, buf: &mut [u8]) -> Result<usize, Failed> {
+        if place != Place::B {
+            return Ok(0);
+        }
+        let count = buf.len().min(LONG.len());
+        buf[..count].copy_from_slice(&LONG[..count]);
+        Ok(count)
+    }
+
+    fn write_at(&mut self, _place: Place, _at: u64, _bytes: &[u8]) -> Result<(), Failed> {
+        Ok(())
+    }
+
+    fn cut(&mut self, _place: Place, _size: u64) -> Result<(), Failed> {
+        Ok(())
+    }
+
+    fn sync(&mut self, _place: Place) -> Result<(), Failed> {
+        Ok(())
+    }
+
+    ghost is_outcome = { λ _. tt };
+
+    ghost counts_now = { λ shelf t c earlier now. absurd now };
+
+    ghost only_now = { λ shelf c left. absurd left };
+}
+
+#[test]
+fn a_length_over_the_bound_is_damaged_at_9(rt: HostRuntime) {
+    assert_eq!(rt;
+        kept_count(rt.alloc(), &mut LongImage),
+        Err(SlotFault::Damaged(Place::B, 9))
+    );
+}
