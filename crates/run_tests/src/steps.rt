@@ -49,11 +49,7 @@ const LINES: [(&str, Status, &str); 36] = [
     ("at +5\n", Status::Steps, "chats: steps line 1\n"),
     ("at 5 \n", Status::Steps, "chats: steps line 1\n"),
     ("at 253402300799\n", Status::Ok, ""),
-    (
-        "at 253402300800\n",
-        Status::Steps,
-        "chats: steps line 1\n",
-    ),
+    ("at 253402300800\n", Status::Steps, "chats: steps line 1\n"),
     ("expunge 4294967295\n", Status::Ok, ""),
     (
         "expunge 4294967296\n",
@@ -61,11 +57,7 @@ const LINES: [(&str, Status, &str); 36] = [
         "chats: steps line 1\n",
     ),
     ("seen 4294967295\n", Status::Ok, ""),
-    (
-        "seen 4294967296\n",
-        Status::Steps,
-        "chats: steps line 1\n",
-    ),
+    ("seen 4294967296\n", Status::Steps, "chats: steps line 1\n"),
     ("seen  1\n", Status::Steps, "chats: steps line 1\n"),
     // 22 bytes with CR LF, and 23.
     ("expunge 000000000001\r\n", Status::Ok, ""),
