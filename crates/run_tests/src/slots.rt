@@ -1,4 +1,7 @@
 //! Two slots over the shelf in memory: the bytes that are written, damage, and a stop at each call.
+ghost use Rattle.std.specs.Prelude.{◌≡◌, ◌<◌, IfSome, true};
+ghost use Rattle.checkpoint.specs.Kept.{count_of as kept_count_of};
+
 use box_state::Mailbox;
 use checkpoint::{Opened, SlotFault, Slots};
 use outside::{Failed, Place, Shelf};
@@ -22,12 +25,12 @@ const THREE: &[u8] =
 /// No image.
 const NONE: &[u8] = b"CHATSIM0";
 
-/// A gate, a number, the length of an image and the image. Both numbers are small.
+/// A gate, a number below 256, the length of an image and the image.
 fn slot(alloc: Global, gate: u8, number: u8, image: &[u8]) -> Result<Vec<u8>, Fail> {
     let mut bytes = Vec::new(alloc);
     bytes.push(gate)?;
     bytes.extend_from_slice(&[0, 0, 0, 0, 0, 0, 0, number])?;
-    bytes.extend_from_slice(&[0, 0, 0, 0, 0, 0, 0, image.len() as u8])?;
+    bytes.extend_from_slice(&(image.len() as u64).to_be_bytes())?;
     bytes.extend_from_slice(image)?;
     Ok(bytes)
 }
@@ -60,15 +63,23 @@ fn kept_in(alloc: Global, a: &[u8], b: &[u8]) -> Result<Result<Option<u64>, Slot
     Ok(kept_count(alloc, &mut shelf))
 }
 
+/// Whether a number is greater than the count that is kept, where anything is.
+fn is_above(number: u64, kept: &Option<(Mailbox, Position)>) -> bool
+    ensures { result ≡ true → IfSome (kept_count_of kept.now) (λ count. count < number) }
+{
+    match kept {
+        Some((_, position)) => position.count < number,
+        None => true,
+    }
+}
+
 /// Opens the slots, and saves an image where its number is greater than the count that is kept. It answers whether it was
 /// saved.
 fn save(alloc: Global, shelf: &mut MemoryShelf, number: u64, image: &[u8]) -> bool {
     let Ok(Opened { mut slots, kept }) = Slots::open(alloc, shelf) else {
         return false;
     };
-    if let Some(count) = count_of(&kept)
-        && number <= count
-    {
+    if !is_above(number, &kept) {
         return false;
     }
     slots.save(shelf, number, image).is_ok()
