@@ -1,0 +1,6 @@
+-- What public clauses cite.
+pub mod Frames
+pub mod Groups
+pub mod Spelling
+pub mod Tails
+pub mod Read

@@ -1,0 +1,44 @@
+-- What reading T answers.
+use Rattle.std.specs.Prelude.{◌≡◌, ◌<◌, ◌≤◌, ℕ, List, ◌++◌, length, map, drop, Result, Ok, Err}
+use Rattle.tail_journal.specs.declared.fault.TailFault.{TailFault}
+use Rattle.tail_journal.specs.declared.fault.TailFault.TheVariants as fault
+use Rattle.tail_journal.specs.declared.group.Group.{Group}
+use Rattle.card_record.specs.Reading.{◌>>=◌}
+use Rattle.tail_journal.specs.Frames.{frames}
+use Rattle.tail_journal.specs.Groups.{Applied, Reading, nothing_more, reading_on}
+
+abbrev pub applied_of : Group → Applied
+applied_of group = record { position = group.position; changes = group.changes.items }
+
+-- What is answered, seen by view, is what is read, unless the shelf failed or memory ran out.
+abbrev pub Fails : {Y : Type 0} → TailFault → Result Y ℕ → Type 0
+Fails (fault.Damaged at) read = read ≡ Err at
+Fails fault.Disk read = Unit {0}
+Fails fault.Memory read = Unit {0}
+
+abbrev pub Gives : {X Y : Type 0} → (X → Y) → Result X TailFault → Result Y ℕ → Type 0
+Gives view (Ok x) read = read ≡ Ok (view x)
+Gives view (Err why) read = Fails why read
+
+-- ---- one frame after the other
+
+-- a reading after these groups
+abbrev pub after_groups : List Applied → Reading → Reading
+after_groups groups r = record { groups = groups ++ r.groups; count = r.count; end = r.end }
+
+-- One frame was taken: reading goes on at the next offset, with the later count, after the groups that came to the old ones.
+pub record GoesOn (bytes : List ℕ) (at count next later : ℕ) (old new : List Group) : Type 0 where
+  pub more : List Group
+  pub groups : new ≡ old ++ more
+  pub is : reading_on at count (frames (drop at bytes)) ≡ (reading_on next later (frames (drop next bytes)) >>= λ r. Ok (after_groups (map applied_of more) r))
+  pub onward : at < next
+  pub within : next ≤ length bytes
+
+-- Reading ends here, and no group came.
+pub record EndsAt (bytes : List ℕ) (at count : ℕ) (old new : List Group) : Type 0 where
+  pub groups : new ≡ old
+  pub is : reading_on at count (frames (drop at bytes)) ≡ Ok (nothing_more at count)
+
+-- the groups of a reading, and where it ends
+abbrev pub groups_of : Result Reading ℕ → Result (List Applied × ℕ) ℕ
+groups_of read = read >>= λ r. Ok (r.groups, r.end)

@@ -1,0 +1,17 @@
+//! The tail between checkpoints: groups of changes in place T of a shelf, read from a count on, appended and cleared, so
+//! that a crash at any moment leaves the groups of before or those after.
+#![tactic(auto)]
+
+mod append;
+mod body;
+mod fault;
+mod frames;
+mod group;
+mod laws;
+mod reading;
+mod tail;
+
+pub use fault::TailFault;
+pub use group::{Group, write_group};
+pub use laws::{a_spelled_group_is_read, no_group_is_applied_twice};
+pub use tail::Tail;
