@@ -153,7 +153,7 @@ impl Refusal {
     }
 
     /// The line that says so, but for the number of a line of the steps file.
-    fn fixed_line(self) -> &'static str
+    pub(crate) fn fixed_line(self) -> &'static str
         requires { (line : ℕ) → self ≢ refusal.Steps line }
         ensures { result.now ≡ line_of self }
     {

@@ -25,9 +25,6 @@ use outside::{Clock, NoSource, Shelf, Sink, Source};
 use std::alloc::Global;
 use std::sync::ledger::Ledger;
 
-/// The line that says that memory ran out.
-const OUT_OF_MEMORY: &str = "chats: out of memory\n";
-
 /// The moment of a run without a steps file, for which the clock is asked where the words give none.
 fn moment_or_now<C: Clock>(at: Option<u64>, clock: &mut C) -> u64
     requires { IfSome at (λ moment. moment ≤ last_moment) }
@@ -223,7 +220,7 @@ fn refuse<K: Sink>(alloc: Global, why: Refusal, out: &mut K) -> Status
             why.status()
         }
         Err(Memory) => {
-            let _ = out.put(OUT_OF_MEMORY.as_bytes());
+            let _ = out.put(Refusal::Memory.fixed_line().as_bytes());
             Status::Memory
         }
     }
