@@ -1,4 +1,4 @@
--- Calls that change no read, and what the front of a place says.
+-- What the front of a place says.
 use Rattle.std.proofs.Common.{◌≡◌, ◌≢◌, ◌⊎◌, inl, inr, ℕ, ◌+◌, ◌≤◌, ◌<◌, nat_le, nat_lt, ◌&&◌, List, [], ◌∷◌, length, take, drop, Bool, true, false, Option, None, Some, cond, eqb, min, refl, sym, ◌∙◌, ap, subst, arith, length-take, length-drop}
 use Rattle.std.proofs.lemmas.List.{take_min, drop-take}
 use Rattle.std.proofs.lemmas.Bool.{cases_eq, cases_Bool}
@@ -7,25 +7,10 @@ use Rattle.std.specs.Int.{w64, from_be_bytes}
 use Rattle.outside.specs.declared.shelf.Place.{Place}
 use Rattle.outside.specs.declared.shelf.Place.TheVariants.{A, B}
 use Rattle.outside.specs.Places.{Places}
-use Rattle.outside.specs.Moments.{WhereKnown}
-use Rattle.outside.proofs.Known.{known_on}
-use Rattle.outside.proofs.Moments.{and_then}
 use Rattle.checkpoint.specs.Slots.{Slot, slot_of, slot_after, chosen, chosen_of, is_closed}
-use Rattle.checkpoint.specs.Parts.{ChangesNoRead, IsFront, stated_in, with_image, IsStated, chosen_stated, HasChosen}
+use Rattle.checkpoint.specs.Parts.{IsFront, stated_in, with_image, IsStated, chosen_stated, HasChosen}
 use Rattle.checkpoint.specs.declared.front.Stated.{Stated}
 use Rattle.checkpoint.proofs.Lists.{take_take}
-
-module _ {D : Type 0} (seen : D → Option Places) (may_leave : D → Places → Type 0) (moment : D → ℕ) (left_since : D → ℕ → Places → Type 0) where
-  pub and_more : (old mid new : D) → ChangesNoRead seen may_leave moment left_since old mid → ChangesNoRead seen may_leave moment left_since mid new → ChangesNoRead seen may_leave moment left_since old new
-  and_more old mid new p q = record {
-    reads = known_on (seen old) (seen mid) (seen new) (λ a b. b ≡ a) (λ a b. b ≡ a) (λ a b. b ≡ a) (λ x y z is a b. b ∙ a) p.reads q.reads;
-    outcomes = λ c left. p.outcomes c (q.outcomes c left);
-    any_moment = and_then moment left_since old mid new (may_leave old) (may_leave mid) (may_leave old) p.any_moment q.any_moment (λ c left. left) p.outcomes;
-  }
-
-  -- what holds of the contents after holds of them before
-  pub seen_before : (old mid : D) (P : Places → Type 0) → ChangesNoRead seen may_leave moment left_since old mid → WhereKnown (seen mid) P → WhereKnown (seen old) P
-  seen_before old mid P p h s is = let a = p.reads.forth s is in subst P a.holds (h a.places a.is)
 
 pub same_closed : (n : ℕ) (bytes : List ℕ) → n ≡ min 17 (length bytes) → is_closed (take n bytes) ≡ is_closed bytes
 same_closed n [] is = let e : n ≡ 0 = omega (arith, is) in ap (λ (k : ℕ). is_closed (take k [])) e

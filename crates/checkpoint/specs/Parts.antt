@@ -3,20 +3,12 @@ use Rattle.std.specs.Prelude.{◌≡◌, ◌≤◌, ℕ, ◌+◌, List, length, 
 use Rattle.std.specs.Int.{w64, from_be_bytes}
 use Rattle.outside.specs.declared.shelf.Place.{Place}
 use Rattle.outside.specs.Places.{Places, content}
-use Rattle.outside.specs.Crash.{WasOutcome}
-use Rattle.outside.specs.Moments.{LeavesOnly, KnownThen}
 use Rattle.checkpoint.specs.Slots.{Slot, slot_of, slot_after, chosen_by, chosen_of, next_place, other_place, is_closed}
 use Rattle.checkpoint.specs.Saves.{AreSettled}
 use Rattle.checkpoint.specs.declared.front.Front.{Front}
 use Rattle.checkpoint.specs.declared.front.Stated.{Stated}
 
 -- ---- opening
-
--- No read changes, and a crash at any moment leaves what it might have left before.
-pub record ChangesNoRead {D : Type 0} (seen : D → Option Places) (may_leave : D → Places → Type 0) (moment : D → ℕ) (left_since : D → ℕ → Places → Type 0) (old new : D) : Type 0 where
-  pub reads : KnownThen (seen old) (seen new) (λ before after. after ≡ before)
-  pub outcomes : WasOutcome (may_leave old) (may_leave new)
-  pub any_moment : LeavesOnly moment left_since old new (may_leave old)
 
 -- the number and the length that are in the first 17 bytes of a place with so many bytes, where its slot is open
 abbrev pub stated_in : ℕ → List ℕ → Option Stated

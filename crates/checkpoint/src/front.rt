@@ -3,9 +3,9 @@ ghost use Rattle.std.specs.Prelude.{◌≡◌, ◌≤◌, ◌+◌, List, ℕ, le
 ghost use Rattle.std.specs.Int.{w64, from_be_bytes};
 ghost use Rattle.outside.specs.Causes.{HasCause};
 ghost use Rattle.outside.specs.Places.{content};
-ghost use Rattle.outside.specs.Moments.{WhereKnown};
+ghost use Rattle.outside.specs.Moments.{WhereKnown, ChangesNoRead};
 ghost use Rattle.checkpoint.specs.Slots.{is_closed};
-ghost use Rattle.checkpoint.specs.Parts.{ChangesNoRead, IsFront, stated_in, chosen_stated};
+ghost use Rattle.checkpoint.specs.Parts.{IsFront, stated_in, chosen_stated};
 
 use outside::{Failed, Place, Shelf};
 

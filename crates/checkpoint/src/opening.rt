@@ -2,13 +2,13 @@
 ghost use Rattle.std.specs.Prelude.{◌≡◌, ◌≢◌, ◌⊎◌, ◌≤◌, ◌+◌, length, vec_len, Some, IfSome, IfOk, OnOk, IfErr, IsErrOf};
 ghost use Rattle.outside.specs.Causes.{HasCause, Rose};
 ghost use Rattle.outside.specs.Places.{content};
-ghost use Rattle.outside.specs.Moments.{WhereKnown};
+ghost use Rattle.outside.specs.Moments.{WhereKnown, ChangesNoRead};
 ghost use Rattle.box_state.specs.declared.ready.Ready.TheVariants.{Unready};
 ghost use Rattle.state_image.specs.Images.{image_of, IsPosition};
 ghost use Rattle.checkpoint.specs.declared.fault.SlotFault.TheVariants as fault;
 ghost use Rattle.checkpoint.specs.Kept.{numbered, slot_kept, at_place, kept_of, GivesKept};
 ghost use Rattle.checkpoint.specs.Saves.{AreSettled};
-ghost use Rattle.checkpoint.specs.Parts.{ChangesNoRead, IsFront, with_image, HasChosen};
+ghost use Rattle.checkpoint.specs.Parts.{IsFront, with_image, HasChosen};
 
 use crate::fault::SlotFault;
 use crate::front::{Front, HEAD, Stated, look};

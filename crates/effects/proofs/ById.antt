@@ -22,7 +22,7 @@ pub looked : {V : Type 0} (es : List (Bytes × V)) (id : Bytes) → lookup (at i
 looked [] id = refl
 looked (e ∷ es) id = λ i. cond (is_eq-slice_cmp id e.0 i) (Some e.1) (looked es id i)
 
--- another value, or none, for one idess
+-- another value, or none, for one id
 module _ {V : Type 0} (es fs : List (Bytes × V)) (id : Bytes) (value : Option V)
     (updates : (q : Bytes) → lookup (at q) fs ≡ cond (at id q) value (lookup (at q) es)) where
   changed : (q : Bytes) → lookup (bytes_eq q) fs ≡ cond (bytes_eq id q) value (lookup (bytes_eq q) es)

@@ -2,7 +2,7 @@
 use Rattle.std.specs.Prelude.{◌≡◌, ◌⊎◌, ◌≤◌, ℕ, Option, Some}
 use Rattle.outside.specs.declared.shelf.Place.{Place}
 use Rattle.outside.specs.Places.{Places, content}
-use Rattle.outside.specs.Crash.{OnlyAt}
+use Rattle.outside.specs.Crash.{WasOutcome, OnlyAt}
 
 -- A crash at any moment from old to new leaves what has P.
 pub record LeavesOnly {D : Type 0} (moment : D → ℕ) (left_since : D → ℕ → Places → Type 0) (old new : D) (P : Places → Type 0) : Type 0 where
@@ -33,3 +33,9 @@ pub record IsKnown (seen : Option Places) (P : Places → Type 0) : Type 0 where
 pub record KnownThen (old new : Option Places) (R : Places → Places → Type 0) : Type 0 where
   pub forth : (places : Places) → old ≡ Some places → IsKnown new (R places)
   pub back : (places : Places) → new ≡ Some places → IsKnown old (λ before. R before places)
+
+-- No read changes, and a crash at any moment leaves what it might have left before.
+pub record ChangesNoRead {D : Type 0} (seen : D → Option Places) (may_leave : D → Places → Type 0) (moment : D → ℕ) (left_since : D → ℕ → Places → Type 0) (old new : D) : Type 0 where
+  pub reads : KnownThen (seen old) (seen new) (λ before after. after ≡ before)
+  pub outcomes : WasOutcome (may_leave old) (may_leave new)
+  pub any_moment : LeavesOnly moment left_since old new (may_leave old)

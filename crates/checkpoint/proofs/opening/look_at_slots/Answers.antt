@@ -1,5 +1,5 @@
 use Rattle.checkpoint.specs.Parts.{IsFront}
-use Rattle.checkpoint.proofs.Fronts.{and_more, seen_before}
+use Rattle.outside.proofs.Unchanged.{and_more, seen_before}
 use Rattle.checkpoint.proofs.opening.look_at_slots.Goals as goal
 
 pub returns-in_err-a-clause-nothing : goal.returns-in_err-a-clause-nothing

@@ -8,7 +8,8 @@ use Rattle.checkpoint.specs.Slots.{chosen_of}
 use Rattle.checkpoint.specs.Kept.{kept_of, number_of}
 use Rattle.checkpoint.specs.Known.{Knows}
 use Rattle.checkpoint.specs.Parts.{HasChosen}
-use Rattle.checkpoint.proofs.Fronts.{and_more, chosen_is}
+use Rattle.outside.proofs.Unchanged.{and_more}
+use Rattle.checkpoint.proofs.Fronts.{chosen_is}
 use Rattle.checkpoint.proofs.Found.{still_settled, knows, gives_err, number_is}
 use Rattle.checkpoint.proofs.slots.Slots.open.Goals as goal
 
