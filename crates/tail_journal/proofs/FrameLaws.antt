@@ -1,5 +1,5 @@
 -- Frames in bytes that are cut, and in bytes that others follow.
-use Rattle.std.proofs.Common.{◌≡◌, ℕ, zero, suc, ◌+◌, ◌<◌, ◌≤◌, ◌^◌, List, [], ◌∷◌, ◌++◌, length, take, drop, Bool, true, false, ◌&&◌, nat_le, eqb, cond, inl, inr, refl, sym, ◌∙◌, ap, subst, arith, length-append, length-drop, length-take}
+use Rattle.std.proofs.Common.{◌≡◌, ℕ, zero, suc, ◌+◌, ◌<◌, ◌≤◌, ◌^◌, List, [], ◌∷◌, ◌++◌, length, take, drop, Bool, true, false, ◌&&◌, ◌⊎◌, nat_le, nat_lt, eqb, cond, min, inl, inr, refl, sym, ◌∙◌, ap, subst, arith, length-append, length-drop, length-take}
 use Rattle.std.proofs.lemmas.Bool.{cases_Bool}
 use Rattle.std.proofs.lemmas.Bool.Decides.{nat_tests}
 use Rattle.std.proofs.lemmas.List.{take_at, drop_at}
@@ -15,19 +15,25 @@ skip zero bytes = refl
 skip (suc n) [] = refl
 skip (suc n) (b ∷ bytes) = skip n bytes
 
-and_left : (b c : Bool) → b && c ≡ true → b ≡ true
+pub and_left : (b c : Bool) → b && c ≡ true → b ≡ true
 and_left true c e = refl
 and_left false c e = e
 
-and_right : (b c : Bool) → b && c ≡ true → c ≡ true
+pub and_right : (b c : Bool) → b && c ≡ true → c ≡ true
 and_right true c e = e
 and_right false c e = absurd (cc)
 
-le_of : (m n : ℕ) → nat_le m n ≡ true → m ≤ n
+pub le_of : (m n : ℕ) → nat_le m n ≡ true → m ≤ n
 le_of m n e = grind (arith, nat_tests)
 
 pub le_is : (m n : ℕ) → m ≤ n → nat_le m n ≡ true
 le_is m n le = grind (arith, nat_tests)
+
+less_of : (m n : ℕ) → nat_lt m n ≡ true → m < n
+less_of m n e = grind (arith, nat_tests)
+
+not_less_of : (m n : ℕ) → nat_lt m n ≡ false → n ≤ m
+not_less_of m n e = grind (arith, nat_tests)
 
 take_cut : (j k : ℕ) (xs : List ℕ) → j ≤ length (take k xs) → take j (take k xs) ≡ take j xs
 take_cut zero k xs le = refl
@@ -69,13 +75,30 @@ whole_of k rest whole =
     let b : nat_le (body_size rest) (length (drop 12 rest)) ≡ true = le_is (body_size rest) (length (drop 12 rest)) (omega (arith, length_cut 12 k rest, size)) in
     record { whole = λ i. a i && b i; frame = λ i. record { base = from_be_bytes w64 (base i); body = body i }; size = size }
 
+-- a whole frame is whole in a cut list, or the cut is within it
+pub whole_cut : (k : ℕ) (rest : List ℕ) → is_whole rest ≡ true → (k < 12 + body_size rest) ⊎ (is_whole (take k rest) ≡ true)
+whole_cut k rest whole = elim (cases_Bool (nat_lt k (12 + body_size rest))) [
+  | inl less ↦ inl (less_of k (12 + body_size rest) less)
+  | inr not_less ↦
+      let cut = take k rest in
+      let enough = not_less_of k (12 + body_size rest) not_less in
+      let len : length cut ≡ min k (length rest) = length-take k rest in
+      let long = long_enough rest whole in
+      let fits = body_fits rest whole in
+      let after = length-drop 12 rest in
+      let size : body_size cut ≡ body_size rest = ap (from_be_bytes w32) (part_cut 8 4 k rest (omega (arith, len, long, enough)) (omega (arith, length-drop 8 cut, len, long, enough))) in
+      let a : nat_le 12 (length cut) ≡ true = le_is 12 (length cut) (omega (arith, len, long, enough)) in
+      let b : nat_le (body_size cut) (length (drop 12 cut)) ≡ true = le_is (body_size cut) (length (drop 12 cut)) (omega (arith, length-drop 12 cut, len, size, fits, after, enough, long)) in
+      inr (λ i. a i && b i)
+]
+
 -- and so where bytes follow
 pub whole_then : (rest more : List ℕ) → is_whole rest ≡ true → IsSame rest (rest ++ more)
 whole_then rest more whole =
     let cut : take (length rest) (rest ++ more) ≡ rest = take_at rest more (length rest) refl in
     subst (λ (l : List ℕ). IsSame l (rest ++ more)) cut (whole_of (length rest) (rest ++ more) (subst (λ (l : List ℕ). is_whole l ≡ true) (sym cut) whole))
 
-frame_length : (rest : List ℕ) → is_whole rest ≡ true → length (frame_of rest).body ≡ body_size rest
+pub frame_length : (rest : List ℕ) → is_whole rest ≡ true → length (frame_of rest).body ≡ body_size rest
 frame_length rest whole = omega (arith, length-take (body_size rest) (drop 12 rest), body_fits rest whole)
 
 after_fits : (rest : List ℕ) → is_whole rest ≡ true → 12 + body_size rest ≤ length rest

@@ -1,5 +1,5 @@
 -- From the gate of a new slot to the end of clearing no group of T is applied.
-use Rattle.std.proofs.Common.{◌≡◌, ℕ, zero, suc, ◌+◌, ◌^◌, ◌<◌, ◌≤◌, List, [], ◌∷◌, length, take, Bool, true, false, ◌&&◌, nat_lt, nat_le, eqb, cond, Result, Ok, Err, inl, inr, refl, sym, ◌∙◌, ap, subst, arith}
+use Rattle.std.proofs.Common.{◌≡◌, ℕ, zero, suc, ◌+◌, ◌^◌, ◌<◌, ◌≤◌, List, [], ◌∷◌, length, take, Bool, true, ◌&&◌, nat_lt, nat_le, eqb, cond, Result, Ok, Err, inl, inr, refl, sym, ◌∙◌, ap, subst, arith}
 use Rattle.std.proofs.lemmas.Bool.{cases_Bool}
 use Rattle.std.proofs.lemmas.Bool.Decides.{nat_tests}
 use Rattle.std.specs.List.{AllByRecursion}
@@ -12,7 +12,7 @@ use Rattle.card_record.proofs.FieldLaws.{bind_ok, rule_ok, ok_is}
 use Rattle.tail_journal.specs.Frames.{Frame, frame_size, total_size, body_size, is_whole, frame_of, frames_after, frames}
 use Rattle.tail_journal.specs.Groups.{Applied, Reading, few_at, offsets_at, head_at, changes_at, alone, body_at, position_after, placed, within_limit, nothing_more, with_first, applied, reading_on}
 use Rattle.tail_journal.specs.Tails.{ReadsAll, AppliesNothing}
-use Rattle.tail_journal.proofs.FrameLaws.{total_fits, whole_of}
+use Rattle.tail_journal.proofs.FrameLaws.{and_left, and_right, le_of, total_fits, whole_of}
 use Rattle.tail_journal.proofs.ReadingLaws.{skipped, applies, stops, ends_within}
 
 abbrev pub Below : ℕ → List Frame → Type 0
@@ -21,14 +21,6 @@ Below count fs = AllByRecursion (λ frame. frame.base < count) fs
 below_more : (m n : ℕ) (fs : List Frame) → m ≤ n → Below m fs → Below n fs
 below_more m n [] le b = tt
 below_more m n (f ∷ fs) le b = (omega (arith, b.0), below_more m n fs le b.1)
-
-and_left : (b c : Bool) → b && c ≡ true → b ≡ true
-and_left true c e = refl
-and_left false c e = e
-
-and_right : (b c : Bool) → b && c ≡ true → c ≡ true
-and_right true c e = e
-and_right false c e = absurd (cc)
 
 -- each frame of bytes that are cut is one of the bytes
 below_cut : (count k n : ℕ) (bytes : List ℕ) → Below count (frames_after n bytes) → Below count (frames_after n (take k bytes))
@@ -62,9 +54,6 @@ none_applied (f ∷ fs) at count b =
     skipped f fs at count (less_is f.base count b.0) ∙ none_applied fs (at + frame_size f) count b.1 ∙ ap (λ (k : ℕ). Ok (nothing_more k count)) e
 
 -- ---- a group that is applied has a change
-
-le_of : (m n : ℕ) → nat_le m n ≡ true → m ≤ n
-le_of m n e = grind (arith, nat_tests)
 
 few_some : (bytes : List ℕ) (x : ℕ × List ℕ) → few_at bytes ≡ Ok x → 1 ≤ x.0
 few_some bytes x e =

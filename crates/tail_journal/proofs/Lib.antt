@@ -1,10 +1,12 @@
 pub mod Growing
 pub mod FrameLaws
 pub mod ReadingLaws
+pub mod CutLaws
 pub mod SpellingLaws
 pub mod Appended
 pub mod BodyLaws
 pub mod JointLaw
 pub mod FirstFrame
 pub mod Steps
+pub mod Opened
 mod Rows

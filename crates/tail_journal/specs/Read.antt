@@ -1,11 +1,12 @@
 -- What reading T answers.
-use Rattle.std.specs.Prelude.{◌≡◌, ◌<◌, ◌≤◌, ℕ, List, ◌++◌, length, map, drop, Result, Ok, Err}
+use Rattle.std.specs.Prelude.{◌≡◌, ◌<◌, ◌≤◌, ℕ, ⊤, List, [], ◌++◌, length, map, drop, Option, None, Some, Result, Ok, Err}
 use Rattle.tail_journal.specs.declared.fault.TailFault.{TailFault}
 use Rattle.tail_journal.specs.declared.fault.TailFault.TheVariants as fault
 use Rattle.tail_journal.specs.declared.group.Group.{Group}
 use Rattle.card_record.specs.Reading.{◌>>=◌}
 use Rattle.tail_journal.specs.Frames.{frames}
-use Rattle.tail_journal.specs.Groups.{Applied, Reading, nothing_more, reading_on}
+use Rattle.tail_journal.specs.Groups.{Applied, Reading, nothing_more, reading_on, reading}
+use Rattle.tail_journal.specs.Tails.{ReadsAll}
 
 abbrev pub applied_of : Group → Applied
 applied_of group = record { position = group.position; changes = group.changes.items }
@@ -42,3 +43,20 @@ pub record EndsAt (bytes : List ℕ) (at count : ℕ) (old new : List Group) : T
 -- the groups of a reading, and where it ends
 abbrev pub groups_of : Result Reading ℕ → Result (List Applied × ℕ) ℕ
 groups_of read = read >>= λ r. Ok (r.groups, r.end)
+
+-- ---- a whole reading of T
+
+-- the groups that are applied from a count on; none without one
+abbrev pub groups_from : Option ℕ → List ℕ → Result (List Applied) ℕ
+groups_from None bytes = Ok []
+groups_from (Some count) bytes = reading count bytes >>= λ r. Ok r.groups
+
+-- From this count the same is read; without one nothing is said.
+abbrev pub SameReading : Option ℕ → List ℕ → List ℕ → Type 0
+SameReading None old new = ⊤
+SameReading (Some count) old new = reading count new ≡ reading count old
+
+-- Reading from this count comes to the end of the bytes; without one there are none.
+abbrev pub EndsThere : Option ℕ → List ℕ → Type 0
+EndsThere None bytes = bytes ≡ []
+EndsThere (Some count) bytes = (r : Reading) × ReadsAll count bytes r

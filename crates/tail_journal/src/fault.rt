@@ -4,7 +4,7 @@ ghost use Rattle.tail_journal.specs.declared.fault.TailFault.TheVariants as faul
 
 use kit::Memory;
 use outside::Failed;
-use std::alloc::AllocFailed;
+use std::alloc::{AllocError, AllocFailed};
 use thiserror::Error;
 
 /// Why no tail was read.
@@ -41,6 +41,14 @@ impl<T: Drop> From<AllocFailed<T>> for TailFault {
     ghost from_gives = { λ _ why. why ≡ fault.Memory };
 
     fn from(_error: AllocFailed<T>) -> TailFault {
+        TailFault::Memory
+    }
+}
+
+impl From<AllocError> for TailFault {
+    ghost from_gives = { λ _ why. why ≡ fault.Memory };
+
+    fn from(_error: AllocError) -> TailFault {
         TailFault::Memory
     }
 }

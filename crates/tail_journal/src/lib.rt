@@ -8,6 +8,7 @@ mod fault;
 mod frames;
 mod group;
 mod laws;
+mod opening;
 mod reading;
 mod tail;
 

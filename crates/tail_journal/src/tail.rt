@@ -6,7 +6,11 @@ ghost use Rattle.outside.specs.Places.{Changes, OthersStay};
 ghost use Rattle.outside.specs.Moments.{LeavesOnly, Reached, WhereKnown, KnownThen};
 
 use crate::append::append_at;
+use crate::fault::TailFault;
+use crate::group::Group;
+use crate::opening::{empty, read_from};
 use outside::{DiskFault, Place, Shelf, cut_and_sync};
+use std::alloc::Global;
 
 /// The tail in place T of a shelf, as far as an append needs to know it: groups of changes, one after the other.
 #[derive(Clone, Copy, Debug, PartialEq, Eq)]
@@ -16,7 +20,10 @@ pub struct Tail {
 }
 
 impl Tail {
+    ghost use Rattle.std.specs.Prelude.{map, IfOk, IsErrOf};
+    ghost use Rattle.outside.specs.Causes.{Rose};
     ghost use Rattle.outside.specs.Crash.{RisesUpTo};
+    ghost use Rattle.tail_journal.specs.Read.{applied_of, groups_from, Gives, SameReading, EndsThere};
     ghost use Rattle.tail_journal.specs.Tails.{IsTail, IsPrefix, IsGroup, KeepsOrAdds, Adds};
 
     /// How many bytes the tail has.
@@ -24,6 +31,48 @@ impl Tail {
         ensures { result ≡ self.now.size }
     {
         self.size
+    }
+
+    /// Opens the tail: the groups that are applied from a count on, each change with its offset in T. T is synced before it is
+    /// read, and what is after the last group is cut off. `None` cuts the tail to nothing. Takes memory for T and for its
+    /// groups.
+    ///
+    /// `Disk` comes only at a fault of the shelf. `Damaged` comes exactly where a group that is to be applied is damaged, with
+    /// the offset in T of the first field that is.
+    ///
+    /// - `gives`: the groups are those of what the reads give at the start.
+    /// - `same`, `ends`, `known`: after Ok the reads give the same groups from the count, and reading comes to the end of T,
+    ///   which is settled, with its end at the size.
+    /// - `any_moment`: a crash at any moment leaves the same groups from the count, and A and B as it might have left them
+    ///   before.
+    /// - `others`, `written`: whatever is answered, the reads of A and B are as before, and nothing is written.
+    pub fn read<H: Shelf>(
+        alloc: Global,
+        shelf: &mut H,
+        count: Option<u64>,
+    ) -> Result<(Tail, Vec<Group>), TailFault>
+        ensures gives { WhereKnown (H.seen shelf.old) (λ places.
+            Gives (λ read. map applied_of read.1.items) result (groups_from count places.t)) }
+        ensures same { OnOk result (KnownThen (H.seen shelf.old) (H.seen shelf.new) (Changes T (SameReading count))) }
+        ensures ends { OnOk result (WhereKnown (H.seen shelf.new) (λ places. EndsThere count places.t)) }
+        ensures known { IfOk result (λ read. WhereKnown (H.seen shelf.new) (IsTail read.0 (H.may_leave shelf.new))) }
+        ensures any_moment { WhereKnown (H.seen shelf.old) (λ _. LeavesOnly H.moment H.left_since shelf.old shelf.new
+            (Reached (H.may_leave shelf.old) (Changes T (SameReading count)))) }
+        ensures others { KnownThen (H.seen shelf.old) (H.seen shelf.new) (OthersStay T) }
+        ensures written { H.written shelf.new ≡ H.written shelf.old }
+        ensures later { H.faults shelf.old ≤ H.faults shelf.new }
+        ensures cause { IsErrOf result TailFault.Disk → Rose (H.faults shelf.old) (H.faults shelf.new) }
+    {
+        match count {
+            Some(count) => {
+                let (size, groups) = read_from(alloc, shelf, count)?;
+                Ok((Tail { size }, groups))
+            }
+            None => {
+                empty(shelf)?;
+                Ok((Tail { size: 0 }, Vec::new(alloc)))
+            }
+        }
     }
 
     /// Appends a group: the written form of one, whose length and the size are together at most 2^62. Takes no memory. After
