@@ -105,7 +105,7 @@ eq_of : (m n : ℕ) → eqb m n ≡ true → m ≡ n
 eq_of m n e = grind (arith, nat_tests)
 
 -- where reading comes to the end of the frames, each base is below the count after them
-all_below : (fs : List Frame) (at count : ℕ) (r : Reading) → reading_on at count fs ≡ Ok r → r.end ≡ at + total_size fs → (count ≤ r.count) × Below r.count fs
+pub all_below : (fs : List Frame) (at count : ℕ) (r : Reading) → reading_on at count fs ≡ Ok r → r.end ≡ at + total_size fs → (count ≤ r.count) × Below r.count fs
 all_below [] at count r e end = let is : nothing_more at count ≡ r = ok_is (nothing_more at count) r e in (omega (arith, ap (λ (x : Reading). x.count) is), tt)
 all_below (f ∷ fs) at count r e end = elim (cases_Bool (nat_lt f.base count)) [
   | inl less ↦

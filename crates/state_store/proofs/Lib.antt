@@ -1,0 +1,7 @@
+pub mod Knowing
+pub mod Finding
+pub mod Standing
+pub mod Appending
+pub mod Saving
+pub mod Committing
+mod Rows

@@ -1,0 +1,63 @@
+-- What a commit leaves of the state.
+use Rattle.std.specs.Prelude.{◌≡◌, ◌⊎◌, ◌≤◌, ℕ, ◌+◌, ◌-◌, Bool, not, ◌||◌, nat_lt, List, length, Ok, Some}
+use Rattle.outside.specs.Places.{Places}
+use Rattle.mailbox_model.specs.declared.change.Change.{Change}
+use Rattle.mailbox_model.specs.Lists.{Bytes}
+use Rattle.mailbox_model.specs.Mailbox.{after_all, AreAllowed}
+use Rattle.state_image.specs.declared.position.Position.{Position}
+use Rattle.checkpoint.specs.Slots.{chosen_of}
+use Rattle.checkpoint.specs.Saves.{IsAbove}
+use Rattle.checkpoint.specs.Kept.{number_of}
+use Rattle.tail_journal.specs.Groups.{Reading}
+use Rattle.tail_journal.specs.Spelling.{Batch, IsBatch, AreSpelled, group_spelled}
+use Rattle.tail_journal.specs.Tails.{ReadsAll}
+use Rattle.state_store.specs.States.{State}
+use Rattle.state_store.specs.Stands.{stands}
+use Rattle.state_store.specs.declared.store.Store.{Store}
+
+-- the most bytes that the tail may have
+abbrev pub max_tail : ℕ
+max_tail = 8388608
+
+-- A checkpoint falls due where no slot is chosen, or where the tail would have more bytes than it may with the new group.
+abbrev pub is_due : Store → ℕ → Bool
+is_due store group = not store.chosen || nat_lt max_tail (store.tail.size + group)
+
+-- these changes, with the position after them
+abbrev pub batch_to : Position → List Change → Batch
+batch_to position changes = record { base = position.count - length changes; position = position; changes = changes }
+
+-- The batch leads from the state that stands to this one: it goes on from the count, and its changes are allowed.
+pub record LeadsTo (me : Bytes) (new : State) (places : Places) (batch : Batch) : Type 0 where
+  pub committed : State
+  pub is : stands me places ≡ Ok committed
+  pub rules : IsBatch batch
+  pub base : batch.base ≡ committed.position.count
+  pub allowed : AreAllowed committed.mailbox batch.changes
+  pub mailbox : new.mailbox ≡ after_all committed.mailbox batch.changes
+  pub position : new.position ≡ batch.position
+
+-- the group is the spelling of a batch that leads there
+pub record Appends (me : Bytes) (new : State) (places : Places) (group : List ℕ) : Type 0 where
+  pub batch : Batch
+  pub text : group ≡ group_spelled batch
+  pub leads : LeadsTo me new places batch
+
+-- the state that stood before stands, or the new one
+abbrev pub OldOrNew : Bytes → State → Places → Places → Type 0
+OldOrNew me new before after = (stands me after ≡ stands me before) ⊎ (stands me after ≡ Ok new)
+
+-- The number is greater than that of the chosen slot, and no smaller than the count to which T is read from that.
+pub record IsLater (number : ℕ) (places : Places) : Type 0 where
+  pub above : IsAbove number (chosen_of places)
+  pub read : (count : ℕ) (r : Reading) → number_of (chosen_of places) ≡ Some count → ReadsAll count places.t r → r.count ≤ number
+
+-- these bytes are the spelling of n changes that lead there
+pub record Commits (me : Bytes) (new : State) (n : ℕ) (changes : List ℕ) (places : Places) : Type 0 where
+  pub held : List Change
+  pub spelled : AreSpelled n changes held
+  pub leads : LeadsTo me new places (batch_to new.position held)
+
+-- n changes with this spelling, and this position after them, make a batch
+abbrev pub MakeBatch : Position → ℕ → List ℕ → Type 0
+MakeBatch position n changes = (held : List Change) × AreSpelled n changes held × IsBatch (batch_to position held)

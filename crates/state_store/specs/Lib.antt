@@ -1,0 +1,5 @@
+-- What public clauses cite.
+pub mod States
+pub mod Stands
+pub mod Stored
+pub mod Commits

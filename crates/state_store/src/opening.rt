@@ -1,0 +1,48 @@
+//! The tail of a store that is opened.
+ghost use Rattle.std.specs.Prelude.{◌≡◌, ◌≤◌, map, IfOk, OnOk, IsErrOf};
+ghost use Rattle.outside.specs.Causes.{Rose};
+ghost use Rattle.outside.specs.declared.shelf.Place.TheVariants.{T};
+ghost use Rattle.outside.specs.Places.{Changes};
+ghost use Rattle.outside.specs.Moments.{LeavesOnly, Reached, WhereKnown, KnownThen};
+ghost use Rattle.checkpoint.specs.Slots.{chosen_of};
+ghost use Rattle.checkpoint.specs.Kept.{number_of};
+ghost use Rattle.checkpoint.specs.Known.{Knows};
+ghost use Rattle.tail_journal.specs.Read.{applied_of, groups_from, SameReading};
+ghost use Rattle.state_store.specs.Stands.{in_tail};
+ghost use Rattle.state_store.specs.Stored.{IsStored, Gives};
+
+use crate::fault::StoreFault;
+use crate::store::Store;
+use checkpoint::Slots;
+use outside::Shelf;
+use std::alloc::Global;
+use tail_journal::{Group, Tail};
+
+/// Opens the tail after slots that were opened: the store of both, and the groups that are applied from the number of the
+/// chosen slot on.
+pub fn open_tail<H: Shelf>(
+    alloc: Global,
+    shelf: &mut H,
+    slots: Slots,
+    number: Option<u64>,
+) -> Result<(Store, Vec<Group>), StoreFault>
+    requires known { WhereKnown (H.seen shelf.old) (Knows slots (H.may_leave shelf.old)) }
+    requires number { WhereKnown (H.seen shelf.old) (λ places. number_of (chosen_of places) ≡ number) }
+    ensures gives { WhereKnown (H.seen shelf.old) (λ places.
+        Gives (λ read. map applied_of read.1.items) result (in_tail (groups_from number places.t))) }
+    ensures same { OnOk result (KnownThen (H.seen shelf.old) (H.seen shelf.new) (Changes T (SameReading number))) }
+    ensures stored { IfOk result (λ read. WhereKnown (H.seen shelf.new) (IsStored read.0 (H.may_leave shelf.new))) }
+    ensures any_moment { WhereKnown (H.seen shelf.old) (λ _. LeavesOnly H.moment H.left_since shelf.old shelf.new
+        (Reached (H.may_leave shelf.old) (Changes T (SameReading number)))) }
+    ensures written { H.written shelf.new ≡ H.written shelf.old }
+    ensures later { H.faults shelf.old ≤ H.faults shelf.new }
+    ensures cause { IsErrOf result StoreFault.Disk → Rose (H.faults shelf.old) (H.faults shelf.new) }
+{
+    let (tail, groups) = Tail::read(alloc, shelf, number)?;
+    let store = Store {
+        slots,
+        tail,
+        chosen: number.is_some(),
+    };
+    Ok((store, groups))
+}
