@@ -92,7 +92,3 @@ append_leaves me new group store outcomes x stored chosen a c reached =
     let same = is_settled store outcomes x stored reached.0 reached.1 in
     let is : OldOrNew me new reached.0 c = subst (λ (d : Places). Changes T (KeepsOrAdds group) d c → OldOrNew me new d c) (sym same) here reached.2 in
     (reached.0, reached.1, is)
-
--- contents that are known are known once
-pub known_once : (seen : Option Places) (x y : Places) → seen ≡ Some x → seen ≡ Some y → x ≡ y
-known_once seen x y p q = let same : Some x ≡ Some y = sym p ∙ q in cc

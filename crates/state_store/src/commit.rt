@@ -2,7 +2,7 @@
 ghost use Rattle.std.specs.Prelude.{◌≡◌, ◌⊎◌, ◌≤◌, ◌+◌, ◌^◌, true, length, Ok, IfOk, OnOk, IfErr, IsErrOf};
 ghost use Rattle.outside.specs.Causes.{HasCause, Rose};
 ghost use Rattle.outside.specs.Crash.{RisesUpTo};
-ghost use Rattle.outside.specs.Moments.{LeavesOnly, Reached, WhereKnown};
+ghost use Rattle.outside.specs.Moments.{LeavesOnly, Reached, WhereKnown, KnownThen};
 ghost use Rattle.mailbox_model.specs.Lists.{Bytes};
 ghost use Rattle.state_image.specs.Images.{image, image_of, cards_in};
 ghost use Rattle.tail_journal.specs.Tails.{IsGroup};
@@ -32,8 +32,8 @@ pub fn append<H: Shelf>(store: &mut Store, shelf: &mut H, group: &[u8]) -> Resul
     requires small { store.old.tail.size + length group.now ≤ 2 ^ 62 }
     ensures any_moment { WhereKnown (H.seen shelf.old) (λ places. (me : Bytes) (new : State) → Appends me new places group.now
         → LeavesOnly H.moment H.left_since shelf.old shelf.new (Reached (H.may_leave shelf.old) (OldOrNew me new))) }
-    ensures lasting { OnOk result (WhereKnown (H.seen shelf.old) (λ places. (me : Bytes) (new : State) → Appends me new places group.now
-        → WhereKnown (H.seen shelf.new) (λ after. stands me after ≡ Ok new))) }
+    ensures lasting { OnOk result (KnownThen (H.seen shelf.old) (H.seen shelf.new) (λ places after.
+        (me : Bytes) (new : State) → Appends me new places group.now → stands me after ≡ Ok new)) }
     ensures stored { OnOk result (WhereKnown (H.seen shelf.new) (IsStored store.new (H.may_leave shelf.new))) }
     ensures written { RisesUpTo (length group.now + 1) (H.written shelf.old) (H.written shelf.new) }
     ensures cause { HasCause (H.faults shelf.old) (H.faults shelf.new) result }
@@ -54,7 +54,7 @@ pub fn checkpoint<H: Shelf>(
     ensures any_moment { WhereKnown (H.seen shelf.old) (λ _. (me : Bytes) (new : State)
         → image_of image.now ≡ Ok (new.mailbox, new.position) → new.position.count ≡ number
         → LeavesOnly H.moment H.left_since shelf.old shelf.new (Reached (H.may_leave shelf.old) (OldOrNew me new))) }
-    ensures lasting { OnOk result (WhereKnown (H.seen shelf.new) (λ after. (me : Bytes) (new : State)
+    ensures lasting { OnOk result (KnownThen (H.seen shelf.old) (H.seen shelf.new) (λ _ after. (me : Bytes) (new : State)
         → image_of image.now ≡ Ok (new.mailbox, new.position) → new.position.count ≡ number → stands me after ≡ Ok new)) }
     ensures stored { OnOk result (WhereKnown (H.seen shelf.new) (IsStored store.new (H.may_leave shelf.new))) }
     ensures written { RisesUpTo (length image.now + 18) (H.written shelf.old) (H.written shelf.new) }
@@ -84,8 +84,8 @@ pub fn append_changes<H: Shelf>(
     requires small { store.old.tail.size + (39 + length changes.now) ≤ 2 ^ 62 }
     ensures any_moment { WhereKnown (H.seen shelf.old) (λ places. (me : Bytes) (new : State) → new.position ≡ position → Commits me new n changes.now places
         → LeavesOnly H.moment H.left_since shelf.old shelf.new (Reached (H.may_leave shelf.old) (OldOrNew me new))) }
-    ensures lasting { OnOk result (WhereKnown (H.seen shelf.old) (λ places. (me : Bytes) (new : State) → new.position ≡ position → Commits me new n changes.now places
-        → WhereKnown (H.seen shelf.new) (λ after. stands me after ≡ Ok new))) }
+    ensures lasting { OnOk result (KnownThen (H.seen shelf.old) (H.seen shelf.new) (λ places after.
+        (me : Bytes) (new : State) → new.position ≡ position → Commits me new n changes.now places → stands me after ≡ Ok new)) }
     ensures stored { OnOk result (WhereKnown (H.seen shelf.new) (IsStored store.new (H.may_leave shelf.new))) }
     ensures untouched { IsErrOf result StoreFault.Memory → shelf.new ≡ shelf.old }
     ensures written { RisesUpTo (40 + length changes.now) (H.written shelf.old) (H.written shelf.new) }
@@ -115,8 +115,8 @@ pub fn save_state<H: Shelf, L: Ledger>(
     requires lines { position.lines ≤ position.steps }
     ensures any_moment { (me : Bytes) → WhereKnown (H.seen shelf.old) (λ _. LeavesOnly H.moment H.left_since shelf.old shelf.new
         (Reached (H.may_leave shelf.old) (OldOrNew me (record { mailbox = mailbox.now.mailbox; position = position })))) }
-    ensures lasting { OnOk result ((me : Bytes) → WhereKnown (H.seen shelf.new) (λ after.
-        stands me after ≡ Ok (record { mailbox = mailbox.now.mailbox; position = position }))) }
+    ensures lasting { OnOk result (KnownThen (H.seen shelf.old) (H.seen shelf.new) (λ _ after. (me : Bytes)
+        → stands me after ≡ Ok (record { mailbox = mailbox.now.mailbox; position = position }))) }
     ensures stored { OnOk result (WhereKnown (H.seen shelf.new) (IsStored store.new (H.may_leave shelf.new))) }
     ensures untouched { IsErrOf result StoreFault.Memory → shelf.new ≡ shelf.old }
     ensures written { RisesUpTo (length (image mailbox.now.mailbox position) + 18) (H.written shelf.old) (H.written shelf.new) }

@@ -131,8 +131,8 @@ impl Store {
             (Commits mailbox.now.mailbox.me (record { mailbox = mailbox.now.mailbox; position = position }) n changes.now) }
         ensures any_moment { WhereKnown (H.seen shelf.old) (λ _. LeavesOnly H.moment H.left_since shelf.old shelf.new
             (Reached (H.may_leave shelf.old) (OldOrNew mailbox.now.mailbox.me (record { mailbox = mailbox.now.mailbox; position = position })))) }
-        ensures lasting { OnOk result (WhereKnown (H.seen shelf.old) (λ _. WhereKnown (H.seen shelf.new) (λ after.
-            stands mailbox.now.mailbox.me after ≡ Ok (record { mailbox = mailbox.now.mailbox; position = position })))) }
+        ensures lasting { OnOk result (KnownThen (H.seen shelf.old) (H.seen shelf.new) (λ _ after.
+            stands mailbox.now.mailbox.me after ≡ Ok (record { mailbox = mailbox.now.mailbox; position = position }))) }
         ensures stored { OnOk result (WhereKnown (H.seen shelf.new) (IsStored self.new (H.may_leave shelf.new))) }
         ensures untouched { IsErrOf result StoreFault.Memory → shelf.new ≡ shelf.old }
         ensures appended { is_due self.old (39 + length changes.now) ≡ false

@@ -1,12 +1,16 @@
-use Rattle.std.proofs.Common.{is_some, ◌∙◌, sym, ap, subst}
+use Rattle.std.proofs.Common.{◌≡◌, Ok, is_some, ◌∙◌, sym, ap}
 use Rattle.outside.specs.declared.shelf.Place.TheVariants.{T}
 use Rattle.outside.specs.Places.{Places, Changes, OthersStay}
 use Rattle.outside.specs.Moments.{Reached}
 use Rattle.outside.proofs.Moments.{weaker}
 use Rattle.tail_journal.specs.Tails.{KeepsOrAdds, Adds}
-use Rattle.state_store.specs.Commits.{OldOrNew}
+use Rattle.mailbox_model.specs.Lists.{Bytes}
+use Rattle.outside.proofs.Known.{known_as}
+use Rattle.state_store.specs.States.{State}
+use Rattle.state_store.specs.Stands.{stands}
+use Rattle.state_store.specs.Commits.{Appends, OldOrNew}
 use Rattle.state_store.proofs.Knowing.{only_tail, same_chosen, knows_on}
-use Rattle.state_store.proofs.Appending.{known_once, new_stands, ends_again, read_from, append_leaves}
+use Rattle.state_store.proofs.Appending.{new_stands, ends_again, read_from, append_leaves}
 use Rattle.state_store.proofs.commit.append.Goals as goal
 
 pub returns-in_err-append-clause-any_moment : goal.returns-in_err-append-clause-any_moment
@@ -26,12 +30,12 @@ returns-clause-any_moment g c places is me new a =
     (append_leaves me new group c.args.store.now start places (c.requires.stored places is) c.requires.chosen a)
 
 pub returns-clause-lasting : goal.returns-clause-lasting
-returns-clause-lasting g c places is me new a after known =
+returns-clause-lasting g c =
+    let seen = g.H.Shelf.seen in
     let start = g.H.Shelf.may_leave c.args.shelf.now in
-    let from = c.in_ok-append.ensures.added.back after known in
-    let read = read_from c.args.store.now start places (c.requires.stored places is) c.requires.chosen in
-    let same = known_once (g.H.Shelf.seen c.args.shelf.now) from.places places from.is is in
-    new_stands me new c.args.group.now places a read.count read.number read.r read.all after (subst (λ (p : Places). Changes T (Adds c.args.group.now) p after) same from.holds)
+    let group = c.args.group.now in
+    known_as (seen c.args.shelf.now) (seen c.append.new.shelf) (Changes T (Adds group)) (λ (x y : Places). (me : Bytes) (new : State) → Appends me new x group → stands me y ≡ Ok new)
+    (λ x y is h me new a. let read = read_from c.args.store.now start x (c.requires.stored x is) c.requires.chosen in new_stands me new group x a read.count read.number read.r read.all y h) c.in_ok-append.ensures.added
 
 pub returns-clause-stored : goal.returns-clause-stored
 returns-clause-stored g c after known =

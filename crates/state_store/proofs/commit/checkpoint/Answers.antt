@@ -1,10 +1,15 @@
-use Rattle.std.proofs.Common.{◌≡◌, length, is_some, Some, Ok, sym, ◌∙◌, ap}
+use Rattle.std.proofs.Common.{◌≡◌, [], length, is_some, Some, Ok, sym, ◌∙◌, ap}
 use Rattle.outside.specs.declared.shelf.Place.TheVariants.{T}
-use Rattle.outside.specs.Places.{Places, Changes}
+use Rattle.outside.specs.Places.{Places, Changes, OthersStay}
 use Rattle.outside.specs.Moments.{Reached}
+use Rattle.outside.proofs.Known.{known_on, known_with}
+use Rattle.mailbox_model.specs.Lists.{Bytes}
+use Rattle.state_image.specs.Images.{image_of}
+use Rattle.state_store.specs.States.{State}
+use Rattle.state_store.specs.Stands.{stands}
 use Rattle.outside.proofs.Moments.{weaker, and_then}
 use Rattle.checkpoint.specs.Slots.{Slot, chosen_of, next_place}
-use Rattle.checkpoint.specs.Saves.{SameOrNew}
+use Rattle.checkpoint.specs.Saves.{SameOrNew, IsNew}
 use Rattle.checkpoint.specs.Kept.{slot_kept, number_of}
 use Rattle.tail_journal.specs.Tails.{IsPrefix}
 use Rattle.state_store.specs.Commits.{OldOrNew}
@@ -76,14 +81,21 @@ returns-clause-any_moment g c places is me new read count =
     (clear_leaves me new slot kept c.args.store.now start places stored later mid place (λ (d : Places) (left : mid d). run.each d (g.met.H.Shelf.counts_now c.save.new.shelf (H.moment c.args.shelf.now) d run.later left)) (chosen_left mid saved.places (Some (place, slot)) slots.settled saved.holds))
 
 pub returns-clause-lasting : goal.returns-clause-lasting
-returns-clause-lasting g c after known me new read count =
+returns-clause-lasting g c =
+    let seen = g.H.Shelf.seen in
     let slot : Slot = record { number = c.args.number; image = c.args.image.now } in
-    let has = c.each_mailbox_has_one_image.ensures.spelled c.args.image.now new.mailbox new.position (are_bytes c.args.image.now c.type_inv.image) read in
-    let kept : slot_kept slot ≡ Ok (new.mailbox, new.position) = (λ i. slot_kept (record { number = sym count i; image = has.1 i })) ∙ c.a_saved_image_is_kept.ensures new.mailbox new.position has.0 in
-    let mid = c.clear.ensures.others.back after known in
-    let from = c.in_ok-save.ensures.saved.back mid.places mid.is in
-    let x = from.places in
-    saved_stands me new slot kept x (c.requires.later x from.is) (c.requires.stored x from.is).ends (next_place (chosen_of x)) 0 after (same_chosen mid.places after mid.holds ∙ from.holds) (c.in_ok-clear.ensures.cleared after known)
+    let old = c.args.shelf.now in
+    let mid = c.save.new.shelf in
+    let new = c.clear.new.shelf in
+    let cleared = known_with (seen mid) (seen new) (OthersStay T) (λ (z : Places). z.t ≡ []) c.clear.ensures.others c.in_ok-clear.ensures.cleared in
+    known_on (seen old) (seen mid) (seen new) (IsNew slot) (λ (y z : Places). OthersStay T y z × (z.t ≡ [])) (λ (x z : Places). (me : Bytes) (to : State) → image_of c.args.image.now ≡ Ok (to.mailbox, to.position) → to.position.count ≡ c.args.number → stands me z ≡ Ok to)
+    (λ x y z known is h me to read count.
+    let has = c.each_mailbox_has_one_image.ensures.spelled c.args.image.now to.mailbox to.position (are_bytes c.args.image.now c.type_inv.image) read in
+    let kept : slot_kept slot ≡ Ok (to.mailbox, to.position) = (λ i. slot_kept (record { number = sym count i; image = has.1 i })) ∙ c.a_saved_image_is_kept.ensures to.mailbox to.position has.0 in
+    let from = c.in_ok-save.ensures.saved.back y known in
+    let w = from.places in
+    saved_stands me to slot kept w (c.requires.later w from.is) (c.requires.stored w from.is).ends (next_place (chosen_of w)) 0 z (same_chosen y z h.0 ∙ from.holds) h.1)
+    c.in_ok-save.ensures.saved cleared
 
 pub returns-clause-stored : goal.returns-clause-stored
 returns-clause-stored g c after known =
