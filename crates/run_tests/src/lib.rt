@@ -1,4 +1,4 @@
-//! Tests of the devices, of images, of slots and of whole runs. It has no code of its own.
+//! Tests of the devices, of images, of slots, of the tail and of whole runs. It has no code of its own.
 #![tactic(auto)]
 
 #[cfg(test)]
@@ -17,5 +17,7 @@ mod runs;
 mod slots;
 #[cfg(test)]
 mod steps;
+#[cfg(test)]
+mod tail;
 #[cfg(test)]
 mod words;
