@@ -6,6 +6,7 @@ pub mod SpellingLaws
 pub mod Appended
 pub mod BodyLaws
 pub mod JointLaw
+pub mod ValidLaws
 pub mod FirstFrame
 pub mod Steps
 pub mod Opened

@@ -57,7 +57,7 @@ body_size p n changes = omega arith
 
 -- ---- the head
 
-wide16 : IsWide w16 (2 ^ 16)
+pub wide16 : IsWide w16 (2 ^ 16)
 wide16 = record {
   some = omega arith;
   len = λ n. refl;

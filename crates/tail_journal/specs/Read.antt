@@ -1,5 +1,7 @@
 -- What reading T answers.
-use Rattle.std.specs.Prelude.{◌≡◌, ◌<◌, ◌≤◌, ℕ, ⊤, List, [], ◌++◌, length, map, drop, Option, None, Some, Result, Ok, Err}
+use Rattle.std.specs.Prelude.{◌≡◌, ◌<◌, ◌≤◌, ◌^◌, ℕ, ⊤, List, [], ◌++◌, length, map, drop, Option, None, Some, Result, Ok, Err}
+use Rattle.std.specs.List.{AllByRecursion}
+use Rattle.state_image.specs.Changes.{FitsChange}
 use Rattle.tail_journal.specs.declared.fault.TailFault.{TailFault}
 use Rattle.tail_journal.specs.declared.fault.TailFault.TheVariants as fault
 use Rattle.tail_journal.specs.declared.group.Group.{Group}
@@ -10,6 +12,12 @@ use Rattle.tail_journal.specs.Tails.{ReadsAll}
 
 abbrev pub applied_of : Group → Applied
 applied_of group = record { position = group.position; changes = group.changes.items }
+
+-- a group of valid changes, after which the count is within its limit, and there are no more lines than bytes of the steps file
+pub record FitsApplied (group : Applied) : Type 0 where
+  pub changes : AllByRecursion (λ change. FitsChange change.1) group.changes
+  pub count : group.position.count ≤ 2 ^ 62
+  pub lines : group.position.lines ≤ group.position.steps
 
 -- What is answered, seen by view, is what is read, unless the shelf failed or memory ran out.
 abbrev pub Fails : {Y : Type 0} → TailFault → Result Y ℕ → Type 0

@@ -1,12 +1,13 @@
 //! A tail that is opened.
 ghost use Rattle.std.specs.Prelude.{◌≡◌, ◌⊎◌, ◌≤◌, ◌<◌, ◌^◌, length, map, None, Some, IfOk, OnOk, IfErr, IsErrOf};
+ghost use Rattle.std.specs.List.{AllByRecursion};
 ghost use Rattle.outside.specs.Causes.{HasCause, Rose};
 ghost use Rattle.outside.specs.declared.shelf.Place.TheVariants.{T};
 ghost use Rattle.outside.specs.Places.{Changes, OthersStay};
 ghost use Rattle.outside.specs.Moments.{LeavesOnly, Reached, WhereKnown, KnownThen, IsSettled, ChangesNoRead};
 ghost use Rattle.tail_journal.specs.declared.fault.TailFault.TheVariants as fault;
 ghost use Rattle.tail_journal.specs.Groups.{reading};
-ghost use Rattle.tail_journal.specs.Read.{applied_of, groups_of, groups_from, Gives, SameReading, EndsThere};
+ghost use Rattle.tail_journal.specs.Read.{applied_of, groups_of, groups_from, FitsApplied, Gives, SameReading, EndsThere};
 
 use crate::fault::TailFault;
 use crate::group::Group;
@@ -37,7 +38,7 @@ fn read_bytes<H: Shelf>(alloc: Global, shelf: &mut H) -> Result<Vec<u8>, TailFau
     Ok(bytes)
 }
 
-/// Syncs T: the groups that are applied from a count on, and where reading ends.
+/// Syncs T: the groups that are applied from a count on, each valid, and where reading ends.
 fn read_synced<H: Shelf>(
     alloc: Global,
     shelf: &mut H,
@@ -45,6 +46,7 @@ fn read_synced<H: Shelf>(
 ) -> Result<(Vec<Group>, usize), TailFault>
     ensures gives { WhereKnown (H.seen shelf.old) (λ places.
         Gives (λ read. (map applied_of read.0.items, read.1)) result (groups_of (reading count places.t))) }
+    ensures valid { IfOk result (λ read. AllByRecursion FitsApplied (map applied_of read.0.items)) }
     ensures settled { IfOk result (λ _. WhereKnown (H.seen shelf.old) (λ places. IsSettled T places (H.may_leave shelf.new))) }
     ensures nothing { ChangesNoRead H.seen H.may_leave H.moment H.left_since shelf.old shelf.new }
     ensures written { H.written shelf.new ≡ H.written shelf.old }
@@ -56,7 +58,7 @@ fn read_synced<H: Shelf>(
     read_groups(alloc, &bytes, count)
 }
 
-/// The groups that are applied from a count on, and where reading ended. What is after it is cut off.
+/// The groups that are applied from a count on, each valid, and where reading ended. What is after it is cut off.
 pub fn read_from<H: Shelf>(
     alloc: Global,
     shelf: &mut H,
@@ -64,6 +66,7 @@ pub fn read_from<H: Shelf>(
 ) -> Result<(u64, Vec<Group>), TailFault>
     ensures gives { WhereKnown (H.seen shelf.old) (λ places.
         Gives (λ read. map applied_of read.1.items) result (groups_from (Some count) places.t)) }
+    ensures valid { IfOk result (λ read. AllByRecursion FitsApplied (map applied_of read.1.items)) }
     ensures any_moment { WhereKnown (H.seen shelf.old) (λ _. LeavesOnly H.moment H.left_since shelf.old shelf.new
         (Reached (H.may_leave shelf.old) (Changes T (SameReading (Some count))))) }
     ensures same { OnOk result (KnownThen (H.seen shelf.old) (H.seen shelf.new) (Changes T (SameReading (Some count)))) }

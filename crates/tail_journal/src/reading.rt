@@ -1,10 +1,11 @@
 //! The groups of T from a count on.
 ghost use Rattle.std.specs.Prelude.{◌≢◌, ◌≤◌, ◌<◌, ◌+◌, ◌^◌, List, length, map, drop, IfOk, IfErr, IfSome, IfNone};
+ghost use Rattle.std.specs.List.{AllByRecursion};
 ghost use Rattle.tail_journal.specs.declared.fault.TailFault.TheVariants as fault;
 ghost use Rattle.tail_journal.specs.declared.group.Group.{Group};
 ghost use Rattle.tail_journal.specs.Frames.{frames, IsFirst};
 ghost use Rattle.tail_journal.specs.Groups.{reading_on, reading};
-ghost use Rattle.tail_journal.specs.Read.{applied_of, groups_of, GoesOn, EndsAt, Gives, Fails};
+ghost use Rattle.tail_journal.specs.Read.{applied_of, groups_of, FitsApplied, GoesOn, EndsAt, Gives, Fails};
 
 use crate::fault::TailFault;
 use crate::frames::{after, first_frame, read_group};
@@ -95,7 +96,8 @@ fn step(
     }
 }
 
-/// The groups of T that are applied from a count on, and where reading ends. `Damaged` exactly where one is damaged.
+/// The groups of T that are applied from a count on, each valid, and where reading ends. `Damaged` exactly where one is
+/// damaged.
 pub fn read_groups(
     alloc: Global,
     bytes: &[u8],
@@ -103,6 +105,7 @@ pub fn read_groups(
 ) -> Result<(Vec<Group>, usize), TailFault>
     requires { length bytes.now < 2 ^ 62 }
     ensures gives { Gives (λ read. (map applied_of read.0.items, read.1)) result (groups_of (reading count bytes.now)) }
+    ensures valid { IfOk result (λ read. AllByRecursion FitsApplied (map applied_of read.0.items)) }
     ensures within { IfOk result (λ read. read.1 ≤ length bytes.now) }
     ensures no_fault { IfErr result (λ why. why ≢ fault.Disk) }
 {

@@ -21,9 +21,10 @@ pub struct Tail {
 
 impl Tail {
     ghost use Rattle.std.specs.Prelude.{map, IfOk, IsErrOf};
+    ghost use Rattle.std.specs.List.{AllByRecursion};
     ghost use Rattle.outside.specs.Causes.{Rose};
     ghost use Rattle.outside.specs.Crash.{RisesUpTo};
-    ghost use Rattle.tail_journal.specs.Read.{applied_of, groups_from, Gives, SameReading, EndsThere};
+    ghost use Rattle.tail_journal.specs.Read.{applied_of, groups_from, FitsApplied, Gives, SameReading, EndsThere};
     ghost use Rattle.tail_journal.specs.Tails.{IsTail, IsPrefix, IsGroup, KeepsOrAdds, Adds};
 
     /// How many bytes the tail has.
@@ -41,6 +42,7 @@ impl Tail {
     /// the offset in T of the first field that is.
     ///
     /// - `gives`: the groups are those of what the reads give at the start.
+    /// - `valid`: each change is valid, and so is each position: its count is at most 2^62, its `lines` at most its `steps`.
     /// - `same`, `ends`, `known`: after Ok the reads give the same groups from the count, and reading comes to the end of T,
     ///   which is settled, with its end at the size.
     /// - `any_moment`: a crash at any moment leaves the same groups from the count, and A and B as it might have left them
@@ -53,6 +55,7 @@ impl Tail {
     ) -> Result<(Tail, Vec<Group>), TailFault>
         ensures gives { WhereKnown (H.seen shelf.old) (λ places.
             Gives (λ read. map applied_of read.1.items) result (groups_from count places.t)) }
+        ensures valid { IfOk result (λ read. AllByRecursion FitsApplied (map applied_of read.1.items)) }
         ensures same { OnOk result (KnownThen (H.seen shelf.old) (H.seen shelf.new) (Changes T (SameReading count))) }
         ensures ends { OnOk result (WhereKnown (H.seen shelf.new) (λ places. EndsThere count places.t)) }
         ensures known { IfOk result (λ read. WhereKnown (H.seen shelf.new) (IsTail read.0 (H.may_leave shelf.new))) }
