@@ -579,6 +579,20 @@ fn an_append_in_place_of_a_torn_group_is_stopped_at_each_call(rt: HostRuntime) -
     Ok(())
 }
 
+#[test]
+fn a_group_is_torn_after_a_closed_gate(rt: HostRuntime) -> Result<(), Fail> {
+    let alloc = rt.alloc();
+    let mut torn = groups_from(alloc, &[2])?;
+    // The sync after the rest of the group is refused.
+    let mut shelf = shelf_of(alloc, &torn, Some(9))?;
+    let second = written_one(alloc, 4)?;
+    assert_eq!(rt; append(alloc, &mut shelf, 2, &second), None);
+    torn.push(0)?;
+    torn.extend_from_slice(&[1; 47])?;
+    assert_eq!(rt; shelf.crash(Crash::Ones)?.bytes(Place::T), torn.as_slice());
+    Ok(())
+}
+
 /// Whether a clear of both groups that is stopped at this call leaves, after each crash, nothing that is applied from a
 /// count on, and no byte where it succeeds.
 fn leaves_nothing(alloc: Global, stop: u64, count: u64) -> Result<bool, Fail> {

@@ -1,5 +1,6 @@
 //! The tail of a store that is opened.
 ghost use Rattle.std.specs.Prelude.{◌≡◌, ◌≤◌, map, IfOk, OnOk, IsErrOf};
+ghost use Rattle.std.specs.List.{AllByRecursion};
 ghost use Rattle.outside.specs.Causes.{Rose};
 ghost use Rattle.outside.specs.declared.shelf.Place.TheVariants.{T};
 ghost use Rattle.outside.specs.Places.{Changes};
@@ -7,7 +8,7 @@ ghost use Rattle.outside.specs.Moments.{LeavesOnly, Reached, WhereKnown, KnownTh
 ghost use Rattle.checkpoint.specs.Slots.{chosen_of};
 ghost use Rattle.checkpoint.specs.Kept.{number_of};
 ghost use Rattle.checkpoint.specs.Known.{Knows};
-ghost use Rattle.tail_journal.specs.Read.{applied_of, groups_from, SameReading};
+ghost use Rattle.tail_journal.specs.Read.{applied_of, groups_from, FitsApplied, SameReading};
 ghost use Rattle.state_store.specs.Stands.{in_tail};
 ghost use Rattle.state_store.specs.Stored.{IsStored, Gives};
 
@@ -18,8 +19,8 @@ use outside::Shelf;
 use std::alloc::Global;
 use tail_journal::{Group, Tail};
 
-/// Opens the tail after slots that were opened: the store of both, and the groups that are applied from the number of the
-/// chosen slot on.
+/// Opens the tail after slots that were opened: the store of both, and the valid groups that are applied from the number of
+/// the chosen slot on.
 pub fn open_tail<H: Shelf>(
     alloc: Global,
     shelf: &mut H,
@@ -30,6 +31,7 @@ pub fn open_tail<H: Shelf>(
     requires number { WhereKnown (H.seen shelf.old) (λ places. number_of (chosen_of places) ≡ number) }
     ensures gives { WhereKnown (H.seen shelf.old) (λ places.
         Gives (λ read. map applied_of read.1.items) result (in_tail (groups_from number places.t))) }
+    ensures valid { IfOk result (λ read. AllByRecursion FitsApplied (map applied_of read.1.items)) }
     ensures same { OnOk result (KnownThen (H.seen shelf.old) (H.seen shelf.new) (Changes T (SameReading number))) }
     ensures stored { IfOk result (λ read. WhereKnown (H.seen shelf.new) (IsStored read.0 (H.may_leave shelf.new))) }
     ensures any_moment { WhereKnown (H.seen shelf.old) (λ _. LeavesOnly H.moment H.left_since shelf.old shelf.new

@@ -1,5 +1,5 @@
 //! Two slots and a tail.
-ghost use Rattle.std.specs.Prelude.{◌≡◌, ◌⊎◌, ◌≤◌, ◌+◌, true, false, length, Ok, IfOk, OnOk, IfErr, IfSome, IsErrOf};
+ghost use Rattle.std.specs.Prelude.{◌≡◌, ◌⊎◌, ◌≤◌, ◌+◌, true, false, length, map, Ok, IfOk, OnOk, IfErr, IfSome, IsErrOf};
 ghost use Rattle.outside.specs.Causes.{Rose};
 ghost use Rattle.outside.specs.Crash.{RisesUpTo};
 ghost use Rattle.outside.specs.Moments.{LeavesOnly, Reached, WhereKnown, KnownThen};
@@ -57,7 +57,9 @@ fn count_of(kept: &Option<(Mailbox, Position)>) -> Option<u64>
 
 impl Store {
     ghost use Rattle.box_state.specs.declared.ready.Ready.TheVariants.{Unready};
+    ghost use Rattle.std.specs.List.{AllByRecursion};
     ghost use Rattle.state_image.specs.Images.{IsPosition};
+    ghost use Rattle.tail_journal.specs.Read.{applied_of, FitsApplied};
     ghost use Rattle.state_store.specs.Commits.{Commits, MakeBatch, OldOrNew, is_due};
     ghost use Rattle.state_store.specs.Stands.{found_of, stands};
     ghost use Rattle.state_store.specs.Stored.{found_in, IsStored, Gives, SameFound};
@@ -70,6 +72,7 @@ impl Store {
     ///
     /// - `gives`: what is found is that of what the reads give at the start.
     /// - `same`, `stored`: after Ok the reads give the same, and the shelf is settled for the store.
+    /// - `valid`: the changes of the groups are valid, and so are their positions.
     /// - `any_moment`: a crash at any moment leaves that in which the same is found as in what it might have left at the start.
     /// - `written`: nothing is written.
     pub fn open<H: Shelf>(alloc: Global, shelf: &mut H) -> Result<Opened, StoreFault>
@@ -78,6 +81,7 @@ impl Store {
         ensures stored { IfOk result (λ opened. WhereKnown (H.seen shelf.new) (IsStored opened.store (H.may_leave shelf.new))) }
         ensures any_moment { WhereKnown (H.seen shelf.old) (λ _. LeavesOnly H.moment H.left_since shelf.old shelf.new
             (Reached (H.may_leave shelf.old) SameFound)) }
+        ensures valid { IfOk result (λ opened. AllByRecursion FitsApplied (map applied_of opened.groups.items)) }
         ensures ready { IfOk result (λ opened. IfSome opened.kept (λ read. read.0.ready ≡ Unready)) }
         ensures position { IfOk result (λ opened. IfSome opened.kept (λ read. IsPosition read.1)) }
         ensures written { H.written shelf.new ≡ H.written shelf.old }
