@@ -1,0 +1,128 @@
+-- Changes and groups that are made one after the other.
+use Rattle.std.proofs.Common.{◌≡◌, ℕ, zero, suc, ◌<◌, List, [], ◌∷◌, ◌++◌, length, take, drop, get_or, map, Bool, true, false, cond, Result, Ok, Err, inl, inr, refl, sym, ◌∙◌, ap, subst, arith, map-id}
+use Rattle.std.proofs.lemmas.List.{map-append}
+use Rattle.std.specs.List.{AllByRecursion}
+use Rattle.std.proofs.lemmas.Bool.{cases_Bool}
+use Rattle.outside.specs.declared.shelf.Place.{Place}
+use Rattle.mailbox_model.specs.declared.change.Change.{Change}
+use Rattle.mailbox_model.specs.declared.change.Change.TheVariants.{Arrive, ArriveFault, Expunge, Seen, At}
+use Rattle.mailbox_model.specs.Mailbox.{Mailbox, after, full, IsValidChange}
+use Rattle.card_record.specs.Reading.{◌>>=◌}
+use Rattle.state_image.specs.Changes.{FitsChange}
+use Rattle.tail_journal.specs.Groups.{Applied}
+use Rattle.tail_journal.specs.Read.{applied_of, FitsApplied}
+use Rattle.tail_journal.specs.declared.group.Group.{Group}
+use Rattle.state_store.specs.States.{State}
+use Rattle.state_store.specs.Stands.{made, after_group, after_groups, in_tail}
+use Rattle.state_store.specs.declared.fault.StoreFault.{StoreFault}
+use Rattle.state_store.specs.declared.fault.StoreFault.TheVariants as fault
+use Rattle.keeper.specs.Opening.{Fails}
+
+pub valid_change : (change : Change) → FitsChange change → IsValidChange change
+valid_change (Arrive card) fits = fits
+valid_change (ArriveFault why) fits = tt
+valid_change (Expunge uid) fits = tt
+valid_change (Seen uid) fits = tt
+valid_change (At moment) fits = fits
+
+-- ---- one item of a list
+
+split_at : {X : Type 0} (all : List X) (n : ℕ) (x : X) → n < length all → x ≡ get_or all n x → all ≡ take n all ++ x ∷ drop (suc n) all
+split_at [] n x less is = absurd (omega (arith, less))
+split_at (y ∷ ys) zero x less is = ap (λ z. z ∷ ys) (sym is)
+split_at (y ∷ ys) (suc n) x less is = ap (λ zs. y ∷ zs) (split_at ys n x (omega (arith, less)) is)
+
+-- the next item that a loop takes, after those that it has taken
+pub next_of : {X : Type 0} (all taken : List X) (x : X) → taken ≡ take (length taken) all → length taken < length all → x ≡ get_or all (length taken) x → all ≡ taken ++ x ∷ drop (suc (length taken)) all
+next_of all taken x so_far less is = split_at all (length taken) x less is ∙ ap (λ xs. xs ++ x ∷ drop (suc (length taken)) all) (sym so_far)
+
+pub all_at : {X : Type 0} (P : X → Type 0) (xs : List X) (x : X) (ys : List X) → AllByRecursion P (xs ++ x ∷ ys) → P x
+all_at P [] x ys all = all.0
+all_at P (z ∷ zs) x ys all = all_at P zs x ys all.1
+
+-- ---- what fails
+
+-- what fails at its first step fails
+pub fails_first : {X Y : Type 0} (why : StoreFault) (x : Result X ℕ) (f : X → Result Y ℕ) → Fails why (in_tail x) → Fails why (in_tail (x >>= f))
+fails_first (fault.Damaged place at) (Ok x) f fails = absurd (cc)
+fails_first (fault.Damaged place at) (Err n) f fails = let same : in_tail {X = Place} (Err n) ≡ Err (place, at) = cc in cc
+fails_first fault.Disk x f fails = absurd fails
+fails_first fault.Memory x f fails = tt
+
+-- ---- changes
+
+module _ (m : Mailbox) (at : ℕ) (change : Change) where
+  pub made_one : full m change ≡ false → made m ((at, change) ∷ []) ≡ Ok (after m change)
+  made_one room = ap (λ (b : Bool). cond b (Err at) (Ok (after m change))) room
+
+  pub none_made : full m change ≡ true → made m ((at, change) ∷ []) ≡ Err at
+  none_made full = ap (λ (b : Bool). cond b (Err at) (Ok (after m change))) full
+
+-- changes, and then others
+pub made_all : (m : Mailbox) (xs ys : List (ℕ × Change)) → made m (xs ++ ys) ≡ (made m xs >>= λ n. made n ys)
+made_all m [] ys = refl
+made_all m (x ∷ xs) ys = elim (cases_Bool (full m x.1)) [
+  | inl lacks ↦
+      ap (λ (b : Bool). cond b (Err x.0) (made (after m x.1) (xs ++ ys))) lacks
+      ∙ sym (ap (λ (b : Bool). cond b (Err x.0) (made (after m x.1) xs) >>= λ n. made n ys) lacks)
+  | inr has ↦
+      ap (λ (b : Bool). cond b (Err x.0) (made (after m x.1) (xs ++ ys))) has ∙ made_all (after m x.1) xs ys
+      ∙ sym (ap (λ (b : Bool). cond b (Err x.0) (made (after m x.1) xs) >>= λ n. made n ys) has)
+]
+
+-- Some changes are made, and this is the next of all.
+module _ (start now : Mailbox) (all done : List (ℕ × Change)) (x : ℕ × Change) (so_far : made start done ≡ Ok now) where
+  pub made_next : (next : Mailbox) → made now (x ∷ []) ≡ Ok next → made start (done ++ x ∷ []) ≡ Ok next
+  made_next next is = made_all start done (x ∷ []) ∙ ap (λ (r : Result Mailbox ℕ). r >>= λ n. made n (x ∷ [])) so_far ∙ is
+
+  pub made_no_more : (more : List (ℕ × Change)) → all ≡ done ++ x ∷ more → (why : StoreFault) → Fails why (in_tail (made now (x ∷ []))) → Fails why (in_tail (made start all))
+  made_no_more more is why fails =
+      let here : made start all ≡ made now (x ∷ more) = ap (made start) is ∙ made_all start done (x ∷ more) ∙ ap (λ (r : Result Mailbox ℕ). r >>= λ n. made n (x ∷ more)) so_far in
+      let all_fail = fails_first why (made now (x ∷ [])) (λ n. made n more) fails in
+      subst (λ (r : Result Mailbox ℕ). Fails why (in_tail r)) (sym (here ∙ made_all now (x ∷ []) more)) all_fail
+
+-- ---- groups
+
+pub groups_all : (s : State) (xs ys : List Applied) → after_groups s (xs ++ ys) ≡ (after_groups s xs >>= λ t. after_groups t ys)
+groups_all s [] ys = refl
+groups_all s (x ∷ xs) ys = on_each (after_group s x) (λ t. groups_all t xs ys)
+  where
+    on_each : (r : Result State ℕ) → ((t : State) → after_groups t (xs ++ ys) ≡ (after_groups t xs >>= λ u. after_groups u ys))
+        → (r >>= λ t. after_groups t (xs ++ ys)) ≡ ((r >>= λ t. after_groups t xs) >>= λ t. after_groups t ys)
+    on_each (Ok t) all = all t
+    on_each (Err at) all = refl
+
+module _ (start now : State) (all done : List Applied) (x : Applied) (so_far : after_groups start done ≡ Ok now) where
+  one_more : after_groups now (x ∷ []) ≡ (made now.mailbox x.changes >>= λ m. Ok (record { mailbox = m; position = x.position }))
+  one_more = on_each (made now.mailbox x.changes)
+    where
+      on_each : (r : Result Mailbox ℕ) → ((r >>= λ m. Ok (record { mailbox = m; position = x.position })) >>= λ (t : State). Ok t) ≡ (r >>= λ m. Ok (record { mailbox = m; position = x.position }))
+      on_each (Ok m) = refl
+      on_each (Err at) = refl
+
+  pub groups_next : (m : Mailbox) → made now.mailbox x.changes ≡ Ok m → after_groups start (done ++ x ∷ []) ≡ Ok (record { mailbox = m; position = x.position })
+  groups_next m is =
+      groups_all start done (x ∷ []) ∙ ap (λ (r : Result State ℕ). r >>= λ t. after_groups t (x ∷ [])) so_far
+      ∙ one_more ∙ ap (λ (r : Result Mailbox ℕ). r >>= λ m. Ok (record { mailbox = m; position = x.position })) is
+
+  pub groups_no_more : (more : List Applied) → all ≡ done ++ x ∷ more → (why : StoreFault) → Fails why (in_tail (made now.mailbox x.changes)) → Fails why (in_tail (after_groups start all))
+  groups_no_more more is why fails =
+      let here : after_groups start all ≡ after_groups now (x ∷ more) = ap (after_groups start) is ∙ groups_all start done (x ∷ more) ∙ ap (λ (r : Result State ℕ). r >>= λ t. after_groups t (x ∷ more)) so_far in
+      let group_fails = fails_first why (made now.mailbox x.changes) (λ m. Ok (record { mailbox = m; position = x.position })) fails in
+      let all_fail = fails_first why (after_group now x) (λ t. after_groups t more) group_fails in
+      subst (λ (r : Result State ℕ). Fails why (in_tail r)) (sym here) all_fail
+
+-- ---- groups as they are read
+
+-- the next group, after those that a loop has taken
+pub next_group : (items taken : List Group) (group : Group) → map (λ x. x) taken ≡ take (length taken) items → (length taken < length items) × (group ≡ get_or items (length taken) group)
+    → map applied_of items ≡ map applied_of taken ++ applied_of group ∷ map applied_of (drop (suc (length taken)) items)
+next_group items taken group so_far turn =
+    ap (map applied_of) (next_of items taken group (sym (map-id taken) ∙ so_far) turn.0 turn.1)
+    ∙ map-append applied_of taken (group ∷ drop (suc (length taken)) items)
+
+pub group_fits : (items taken : List Group) (group : Group) → map (λ x. x) taken ≡ take (length taken) items → (length taken < length items) × (group ≡ get_or items (length taken) group)
+    → AllByRecursion FitsApplied (map applied_of items) → FitsApplied (applied_of group)
+group_fits items taken group so_far turn fit =
+    all_at FitsApplied (map applied_of taken) (applied_of group) (map applied_of (drop (suc (length taken)) items))
+    (subst (AllByRecursion FitsApplied) (next_group items taken group so_far turn) fit)

@@ -1,0 +1,27 @@
+use Rattle.std.proofs.Common.{ap}
+use Rattle.outside.specs.Moments.{WhereKnown}
+use Rattle.mailbox_model.specs.Mailbox.{Mailbox}
+use Rattle.state_store.specs.Stored.{found_in}
+use Rattle.keeper.specs.Keeping.{Keeping}
+use Rattle.keeper.specs.Opening.{AllFindSame}
+use Rattle.keeper.proofs.Opened.{all_find_same, on_other, opened_is_kept}
+use Rattle.keeper.proofs.keeper.Keeper.open.Goals as goal
+
+pub returns-in_err-mailbox-clause-other : goal.returns-in_err-mailbox-clause-other
+returns-in_err-mailbox-clause-other g c =
+    let H = g.H.Shelf in
+    let old = H.seen c.args.shelf.now in
+    let new = c.open.new.shelf in
+    on_other c.from_residual-in_err-mailbox.result (WhereKnown old (AllFindSame (H.may_leave new)))
+    (all_find_same old (H.seen new) c.in_ok-store.ensures.same c.in_ok-store.field-0.store (H.may_leave new) c.in_ok-store.ensures.stored)
+
+pub returns-clause-kept : goal.returns-clause-kept
+returns-clause-kept g c =
+    let H = g.H.Shelf in
+    let opened = c.in_ok-store.field-0 in
+    let position = c.in_ok-mailbox.position in
+    let engine = c.in_ok-engine.engine in
+    let k : Keeping = record { state = record { mailbox = engine.mailbox; position = position }; pending = c.new.result; store = opened.store; stale = engine.stale } in
+    opened_is_kept (H.seen c.args.shelf.now) (H.seen c.open.new.shelf) c.in_ok-store.ensures.same c.args.me.now k (found_in opened) (c.in_ok-mailbox.mailbox, position)
+    c.in_ok-store.ensures.gives c.in_ok-mailbox.ensures.restores.0 c.in_ok-mailbox.ensures.restores.1
+    (ap (λ (m : Mailbox). record { mailbox = m; position = position }) c.in_ok-engine.ensures.mailbox) c.new.ensures

@@ -1,0 +1,81 @@
+-- What an opening answers.
+use Rattle.std.specs.Prelude.{◌≡◌, ◌≢◌, ⊤, ℕ, Option, option_map, Result, Ok, Err}
+use Rattle.outside.specs.declared.shelf.Place.{Place}
+use Rattle.outside.specs.Places.{Places}
+use Rattle.mailbox_model.specs.Lists.{Bytes}
+use Rattle.mailbox_model.specs.Mailbox.{Mailbox}
+use Rattle.box_state.specs.Kept.{Kept}
+use Rattle.state_image.specs.declared.position.Position.{Position}
+use Rattle.state_store.specs.States.{State}
+use Rattle.state_store.specs.Stands.{in_tail}
+use Rattle.state_store.specs.Stored.{SameFound}
+use Rattle.state_store.specs.declared.fault.StoreFault.{StoreFault}
+use Rattle.state_store.specs.declared.fault.StoreFault.TheVariants as of_store
+use Rattle.keeper.specs.declared.fault.KeepFault.{KeepFault}
+use Rattle.keeper.specs.declared.fault.KeepFault.TheVariants as fault
+use Rattle.keeper.specs.Keeping.{Keeping}
+
+abbrev pub store_fault : StoreFault → KeepFault
+store_fault of_store.Disk = fault.Disk
+store_fault (of_store.Damaged place at) = fault.Damaged place at
+store_fault of_store.Memory = fault.Memory
+
+-- what stands is the state of another address
+pub record IsOthers (me other : Bytes) (stand : Result State (Place × ℕ)) : Type 0 where
+  pub state : State
+  pub is : stand ≡ Ok state
+  pub whose : state.mailbox.me ≡ other
+  pub differs : other ≢ me
+
+-- Why nothing was opened: damage, or another address, of what stands. The shelf may fail, and memory may run out.
+abbrev pub IsOpenCause : Bytes → Result State (Place × ℕ) → KeepFault → Type 0
+IsOpenCause me stand fault.Disk = ⊤
+IsOpenCause me stand (fault.Damaged place at) = stand ≡ Err (place, at)
+IsOpenCause me stand (fault.OtherMe other) = IsOthers me other stand
+IsOpenCause me stand fault.Full = ⊥
+IsOpenCause me stand fault.Memory = ⊤
+
+-- where the state of another address is kept, this holds
+abbrev pub OnOtherMe : {T : Type 0} → Result T KeepFault → Type 0 → Type 0
+OnOtherMe (Err (fault.OtherMe other)) P = P
+OnOtherMe _ P = ⊤
+
+-- in each of these outcomes the same is found
+abbrev pub AllFindSame : (Places → Type 0) → Places → Type 0
+AllFindSame outcomes places = (c : Places) → outcomes c → SameFound places c
+
+-- What is opened is what stands, and is the state of this address.
+abbrev pub Opens : Bytes → Result Keeping KeepFault → Result State (Place × ℕ) → Type 0
+Opens me (Ok k) stand = (stand ≡ Ok k.state) × (k.state.mailbox.me ≡ me)
+Opens me (Err why) stand = IsOpenCause me stand why
+
+-- ---- from what is kept to what stands
+
+-- the state of a mailbox with a position
+abbrev pub state_of : Kept × Position → State
+state_of kept = record { mailbox = kept.0.mailbox; position = kept.1 }
+
+-- what contracts see of what the chosen slot keeps
+abbrev pub seen_kept : Option (Kept × Position) → Option (Mailbox × Position)
+seen_kept kept = option_map (λ (read : Kept × Position). (read.0.mailbox, read.1)) kept
+
+-- Why the state that stands is not made: there is no room for a change of T, or memory ran out.
+abbrev pub Fails : {X : Type 0} → StoreFault → Result X (Place × ℕ) → Type 0
+Fails of_store.Disk made = ⊥
+Fails (of_store.Damaged place at) made = made ≡ Err (place, at)
+Fails of_store.Memory made = ⊤
+
+-- What was made is what the changes of T make.
+abbrev pub Makes : {T X : Type 0} → Result T StoreFault → X → Result X ℕ → Type 0
+Makes (Ok _) after made = made ≡ Ok after
+Makes (Err why) after made = Fails why (in_tail made)
+
+-- what stands is restored
+abbrev pub Restores : Result (Kept × Position) StoreFault → Result State (Place × ℕ) → Type 0
+Restores (Ok kept) stand = stand ≡ Ok (state_of kept)
+Restores (Err why) stand = Fails why stand
+
+-- and is the state of this address
+abbrev pub RestoresOwn : Bytes → Result (Kept × Position) KeepFault → Result State (Place × ℕ) → Type 0
+RestoresOwn me (Ok kept) stand = (stand ≡ Ok (state_of kept)) × (kept.0.mailbox.me ≡ me)
+RestoresOwn me (Err why) stand = IsOpenCause me stand why

@@ -1,0 +1,49 @@
+//! Why nothing was kept.
+ghost use Rattle.std.specs.Prelude.{◌≡◌};
+ghost use Rattle.keeper.specs.Opening.{store_fault};
+ghost use Rattle.keeper.specs.declared.fault.KeepFault.TheVariants as fault;
+
+use kit::{Addr, Memory};
+use outside::Place;
+use state_store::StoreFault;
+use thiserror::Error;
+
+/// Why a keeper was not opened, or a change not made or not made lasting.
+#[derive(Debug, PartialEq, Eq, Error, Drop)]
+pub enum KeepFault {
+    /// The shelf failed at one of the calls that were made of it.
+    #[error("the state files could not be read or written")]
+    Disk,
+    /// What is kept in this place is damaged at this offset.
+    #[error("a state file is damaged at {1}")]
+    Damaged(Place, u64),
+    /// What is kept is the mailbox of this other address.
+    #[error("the state files keep the mailbox of another address")]
+    OtherMe(Addr),
+    /// The mailbox has no place for an arrival, or 2^62 changes were made.
+    #[error("mailbox full")]
+    Full,
+    /// Memory ran out.
+    #[error("out of memory")]
+    Memory,
+}
+
+impl From<StoreFault> for KeepFault {
+    ghost from_gives = { λ fault why. why ≡ store_fault fault };
+
+    fn from(fault: StoreFault) -> KeepFault {
+        match fault {
+            StoreFault::Disk => KeepFault::Disk,
+            StoreFault::Damaged(place, at) => KeepFault::Damaged(place, at),
+            StoreFault::Memory => KeepFault::Memory,
+        }
+    }
+}
+
+impl From<Memory> for KeepFault {
+    ghost from_gives = { λ _ why. why ≡ fault.Memory };
+
+    fn from(_memory: Memory) -> KeepFault {
+        KeepFault::Memory
+    }
+}

@@ -1,0 +1,10 @@
+//! A mailbox that is kept: an engine whose changes wait in their written form until a commit makes them lasting.
+#![tactic(auto)]
+
+mod fault;
+mod keeper;
+mod opening;
+mod pending;
+
+pub use fault::KeepFault;
+pub use keeper::Keeper;
