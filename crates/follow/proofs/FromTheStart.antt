@@ -1,5 +1,5 @@
 -- A run that follows its files from their start.
-use Rattle.std.proofs.Common.{◌≡◌, ◌-◌, ◌++◌, ℕ, [], length, Option, Some, None, arith, sym, ap, subst, ◌∙◌, false, true}
+use Rattle.std.proofs.Common.{◌≡◌, ◌-◌, ◌++◌, ℕ, [], length, Option, Some, None, arith, refl, sym, ap, subst, ◌∙◌, false, true}
 use Rattle.mboxrd.specs.Mails.{mails_from}
 use Rattle.mboxrd.specs.Reading.{Reading, position}
 use Rattle.source_buffer.specs.Buffered.{Buffered, BufferTakes}
@@ -10,12 +10,14 @@ use Rattle.mailbox_model.specs.Lists.{Bytes}
 use Rattle.mailbox_model.specs.declared.change.Change.TheVariants.{At}
 use Rattle.follower.specs.declared.fault.RunFault.{RunFault}
 use Rattle.follower.specs.declared.fault.RunFault.TheVariants as fault
-use Rattle.follower.specs.Feed.{State, after_fed, coming, ends, End, feed, first_state, last_fed, lines_fed, mails_fed, moment_fed}
-use Rattle.follower.specs.Following.{Following, IsTurnCause, Stops, ahead}
+use Rattle.follower.specs.Feed.{Fed, Feed, State, after_fed, coming, fed_first, ends, End, feed, first_state, last_fed, lines_fed, mails_fed, moment_fed}
+use Rattle.follower.specs.Following.{Following, IsTurnCause, to_come}
+use Rattle.follower.specs.Going.{Leads, LeadsToStop, RefusesFirst, StopsAt}
 use Rattle.follower.specs.Reached.{Full, Reached, is_refused, reached}
 use Rattle.follower.specs.declared.fault.Input.TheVariants.{Mbox, Steps}
-use Rattle.follower.proofs.Turning.{made, no_room}
+use Rattle.follower.proofs.Going.{made, leads_reached}
 use Rattle.follow.specs.Outcome.{CauseOf, TakesAll, TakesUpTo}
+use Rattle.follow.specs.Replies.{Stops}
 use Rattle.follow.specs.Statuses.{refusal_of}
 
 -- a reader at the start of its file has all of it ahead
@@ -33,6 +35,24 @@ known_at None m b P is h = absurd cc
 known_at (Some c) None b P is h = absurd h
 known_at (Some c) (Some d) b P is h = (let same : c ≡ b = cc in subst P same h)
 
+-- ---- why changes come to no end
+
+no_room : (s : State) (f : Fed) (rest : Feed) → is_refused s f.change ≡ true → (reached s (fed_first f rest)).stop ≡ Some Full
+no_room s f rest full = rw full refl
+
+first_refused : (s : State) (feed : Feed) → RefusesFirst s feed → (reached s feed).stop ≡ Some Full
+first_refused s feed refuses = ap (λ (f : Feed). (reached s f).stop) refuses.first ∙ no_room s refuses.fed refuses.others refuses.refused
+
+stops_at : (why : RunFault) (s : State) (feed : Feed) → StopsAt why s feed → Stops why (reached s feed)
+stops_at fault.Full s feed stops = first_refused s feed stops
+stops_at (fault.Steps number) s feed stops = ap (λ (f : Feed). (reached s f).stop) stops
+stops_at (fault.Read input) s feed stops = tt
+stops_at (fault.Endless input) s feed stops = tt
+stops_at fault.Memory s feed stops = tt
+
+leads_to_stop : (why : RunFault) (s : State) (feed : Feed) → LeadsToStop why s feed → Stops why (reached s feed)
+leads_to_stop why s feed leads = subst (Stops why) (sym (leads_reached s leads.last feed leads.others leads.leads)) (stops_at why leads.last leads.others leads.stops)
+
 -- ---- the mbox alone
 
 -- how far a run comes from its start
@@ -48,7 +68,7 @@ pub record Started (me : Bytes) (f : Following) : Type 0 where
 
 mbox_first : (me : Bytes) (f : Following) (b : Bytes) (moment : ℕ) → is_refused (first_state me) (At moment) ≡ false
     → f.state ≡ after_fed (first_state me) (moment_fed (first_state me).position moment) → f.mbox.held ≡ [] → f.mbox.taken ≡ 0
-    → whole me b None (Some moment) ≡ ahead None f b None
+    → whole me b None (Some moment) ≡ reached f.state (to_come None f b None)
 mbox_first me f b moment room is held taken =
     let start = first_state me in
     let fed = moment_fed start.position moment in
@@ -59,7 +79,7 @@ mbox_first me f b moment room is held taken =
 -- a follower at the start makes a moment
 mbox_ahead : (me : Bytes) (start f : Following) (b : Bytes) (moment wanted : ℕ) → Started me start → is_refused start.state (At moment) ≡ false
     → f.state ≡ after_fed start.state (moment_fed start.state.position moment) → f.mbox ≡ start.mbox → moment ≡ wanted
-    → whole me b None (Some wanted) ≡ ahead None f b None
+    → whole me b None (Some wanted) ≡ reached f.state (to_come None f b None)
 mbox_ahead me start f b moment wanted started room is same now =
     ap (λ n. whole me b None (Some n)) (sym now)
     ∙ mbox_first me f b moment (subst (λ (s : State). is_refused s (At moment) ≡ false) started.state room)
@@ -69,22 +89,24 @@ mbox_ahead me start f b moment wanted started room is same now =
 -- the moment was made, and then all mails were followed
 pub mails_all : (me : Bytes) (start f new : Following) (l m : Option Bytes) (b : Bytes) (moment wanted : ℕ) → Started me start → is_refused start.state (At moment) ≡ false
     → f.state ≡ after_fed start.state (moment_fed start.state.position moment) → f.mbox ≡ start.mbox → moment ≡ wanted → l ≡ Some b
-    → IfKnown l m (λ before after. ahead None f before None ≡ reached new.state (last_fed None new.state.position))
+    → IfKnown l m (λ before after. Leads f.state (to_come None f before None) new.state (last_fed None new.state.position))
     → whole me b None (Some wanted) ≡ record { state = new.state; stop = None }
 mails_all me start f new l m b moment wanted started room is same now known go =
     mbox_ahead me start f b moment wanted started room is same now
-    ∙ known_at l m b (λ before. ahead None f before None ≡ reached new.state (last_fed None new.state.position)) known go
+    ∙ leads_reached f.state new.state (to_come None f b None) (last_fed None new.state.position)
+    (known_at l m b (λ before. Leads f.state (to_come None f before None) new.state (last_fed None new.state.position)) known go)
 
 pub mails_stop : (me : Bytes) (start f : Following) (why : RunFault) (l m : Option Bytes) (b : Bytes) (moment wanted : ℕ) → Started me start → is_refused start.state (At moment) ≡ false
     → f.state ≡ after_fed start.state (moment_fed start.state.position moment) → f.mbox ≡ start.mbox → moment ≡ wanted → l ≡ Some b
-    → IfKnown l m (λ before after. Stops why (ahead None f before None))
+    → IfKnown l m (λ before after. LeadsToStop why f.state (to_come None f before None))
     → Stops why (whole me b None (Some wanted))
 mails_stop me start f why l m b moment wanted started room is same now known go =
-    subst (Stops why) (sym (mbox_ahead me start f b moment wanted started room is same now)) (known_at l m b (λ before. Stops why (ahead None f before None)) known go)
+    subst (Stops why) (sym (mbox_ahead me start f b moment wanted started room is same now))
+    (leads_to_stop why f.state (to_come None f b None) (known_at l m b (λ before. LeadsToStop why f.state (to_come None f before None)) known go))
 
 -- ---- the steps file
 
-steps_ahead : (me : Bytes) (f : Following) (b s : Bytes) (last : Option ℕ) → Started me f → whole me b (Some s) last ≡ ahead last f b (Some s)
+steps_ahead : (me : Bytes) (f : Following) (b s : Bytes) (last : Option ℕ) → Started me f → whole me b (Some s) last ≡ reached f.state (to_come last f b (Some s))
 steps_ahead me f b s last started =
     ap (λ (z : State). reached z (lines_fed last z.mailbox.next_uid z.position (mails_from 0 b) (ended_lines s))) (sym started.state)
     ∙ ap (λ ms. reached f.state (lines_fed last f.state.mailbox.next_uid f.state.position ms (ended_lines s))) (sym (all_mails f.mbox b started.mbox_held started.mbox_taken))
@@ -92,20 +114,22 @@ steps_ahead me f b s last started =
 
 -- all lines were followed
 pub lines_all : (me : Bytes) (f new : Following) (l m k n : Option Bytes) (b s : Bytes) (last : Option ℕ) → Started me f → l ≡ Some b → k ≡ Some s
-    → IfKnown l m (λ x y. IfKnown k n (λ before after. ahead last f x (Some before) ≡ reached new.state (last_fed last new.state.position)))
+    → IfKnown l m (λ x y. IfKnown k n (λ before after. Leads f.state (to_come last f x (Some before)) new.state (last_fed last new.state.position)))
     → whole me b (Some s) last ≡ reached new.state (last_fed last new.state.position)
 lines_all me f new l m k n b s last started mails lines go =
     steps_ahead me f b s last started
-    ∙ known_at k n s (λ before. ahead last f b (Some before) ≡ reached new.state (last_fed last new.state.position)) lines
-    (known_at l m b (λ x. IfKnown k n (λ before after. ahead last f x (Some before) ≡ reached new.state (last_fed last new.state.position))) mails go)
+    ∙ leads_reached f.state new.state (to_come last f b (Some s)) (last_fed last new.state.position)
+    (known_at k n s (λ before. Leads f.state (to_come last f b (Some before)) new.state (last_fed last new.state.position)) lines
+    (known_at l m b (λ x. IfKnown k n (λ before after. Leads f.state (to_come last f x (Some before)) new.state (last_fed last new.state.position))) mails go))
 
 pub lines_stop : (me : Bytes) (f : Following) (why : RunFault) (l m k n : Option Bytes) (b s : Bytes) (last : Option ℕ) → Started me f → l ≡ Some b → k ≡ Some s
-    → IfKnown l m (λ x y. IfKnown k n (λ before after. Stops why (ahead last f x (Some before))))
+    → IfKnown l m (λ x y. IfKnown k n (λ before after. LeadsToStop why f.state (to_come last f x (Some before))))
     → Stops why (whole me b (Some s) last)
 lines_stop me f why l m k n b s last started mails lines go =
     subst (Stops why) (sym (steps_ahead me f b s last started))
-    (known_at k n s (λ before. Stops why (ahead last f b (Some before))) lines
-    (known_at l m b (λ x. IfKnown k n (λ before after. Stops why (ahead last f x (Some before)))) mails go))
+    (leads_to_stop why f.state (to_come last f b (Some s))
+    (known_at k n s (λ before. LeadsToStop why f.state (to_come last f b (Some before))) lines
+    (known_at l m b (λ x. IfKnown k n (λ before after. LeadsToStop why f.state (to_come last f x (Some before)))) mails go)))
 
 -- the moment that comes last
 pub last_made : (s : State) (moment : ℕ) → is_refused s (At moment) ≡ false

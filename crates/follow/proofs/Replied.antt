@@ -7,13 +7,12 @@ use Rattle.answers.specs.declared.fault.AnswerFault.TheVariants as answer
 use Rattle.answers.specs.declared.question.Question.{Question}
 use Rattle.follower.specs.declared.fault.RunFault.{RunFault}
 use Rattle.follower.specs.declared.fault.RunFault.TheVariants as fault
-use Rattle.follower.specs.Following.{Stops}
 use Rattle.follower.specs.Reached.{Reached}
 use Rattle.mailbox_model.specs.Lists.{Bytes}
 use Rattle.follow.specs.declared.status.Refusal.{Refusal}
 use Rattle.follow.specs.declared.status.Refusal.TheVariants as refusal
 use Rattle.follow.specs.Outcome.{CauseOf, replied}
-use Rattle.follow.specs.Replies.{Puts}
+use Rattle.follow.specs.Replies.{Puts, Stops}
 use Rattle.follow.specs.Statuses.{answer_refusal, refusal_of}
 
 -- the answer, and why there is none, as a run says it

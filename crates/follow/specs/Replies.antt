@@ -1,13 +1,14 @@
 -- What became of the files and of the answer, before a line is put.
-use Rattle.std.specs.Prelude.{◌≡◌, ℕ, None, Result, Ok, Err, ⊤}
+use Rattle.std.specs.Prelude.{◌≡◌, ℕ, None, Some, Result, Ok, Err, ⊤}
 use Rattle.std.specs.Io.KnownBytes.{Appends}
 use Rattle.std.specs.declared.option.Option.{Option}
 use Rattle.outside.specs.Bytes.{AppendsPrefix}
 use Rattle.mailbox_model.specs.Lists.{Bytes}
 use Rattle.follower.specs.declared.fault.RunFault.{RunFault}
+use Rattle.follower.specs.declared.fault.RunFault.TheVariants as fault
 use Rattle.follower.specs.Feed.{last_fed}
-use Rattle.follower.specs.Following.{Following, Stops}
-use Rattle.follower.specs.Reached.{Reached, reached}
+use Rattle.follower.specs.Following.{Following}
+use Rattle.follower.specs.Reached.{Reached, Full, BadStep, reached}
 use Rattle.follow.specs.declared.status.Refusal.{Refusal}
 use Rattle.follow.specs.declared.status.Refusal.TheVariants as refusal
 
@@ -22,6 +23,12 @@ Puts answer old new (Err (refusal.Read input)) = ⊤
 Puts answer old new (Err (refusal.Endless input)) = ⊤
 Puts answer old new (Err refusal.Write) = ⊥
 Puts answer old new (Err why) = answer ≡ Err why
+
+-- the changes come to no end, for this reason
+abbrev pub Stops : RunFault → Reached → Type 0
+Stops fault.Full r = r.stop ≡ Some Full
+Stops (fault.Steps number) r = r.stop ≡ Some (BadStep number)
+Stops _ r = ⊤
 
 -- The follower has made all changes, or this is why the changes come to no end.
 abbrev pub FollowGoes : Result Following RunFault → Reached → Type 0

@@ -1,4 +1,4 @@
--- A turn makes the next change of the files, so what lies ahead before it lies ahead after it.
+-- A turn makes the next change of the files, and the others are to come after it.
 use Rattle.std.proofs.Common.{◌≡◌, ◌+◌, ℕ, Bool, true, false, List, [], ◌∷◌, ◌++◌, length, Option, Some, None, Result, Ok, Err, ◌≤◌, ◌<◌, ◌⊎◌, inl, inr, refl, sym, ap, subst, ◌∙◌, if◌then◌else◌, nat_lt}
 use Rattle.std.proofs.lemmas.Bool.{le-ltb, lt-ltb}
 use Rattle.kit.specs.Lines.{content}
@@ -28,17 +28,12 @@ use Rattle.follower.specs.declared.fault.RunFault.{RunFault}
 use Rattle.follower.specs.declared.fault.RunFault.TheVariants as fault
 use Rattle.state_image.specs.declared.position.Position.{Position}
 use Rattle.follower.specs.Arrivals.{arrival_of, arrival_taken, arrival_with}
-use Rattle.follower.specs.Feed.{Fed, Feed, State, after_fed, at_line, at_mail, counted, fed_first, last_fed, line_fed, lines_fed, mail_fed, mails_fed}
-use Rattle.follower.specs.Following.{ArrivesNext, Following, Makes, Stops, ahead, lines_ahead, mails_ahead}
-use Rattle.follower.specs.Reached.{Reached, Full, BadStep, is_refused, reached}
+use Rattle.follower.specs.Feed.{Fed, Feed, State, after_fed, at_line, at_mail, counted, fed_first, line_fed, lines_fed, mail_fed, mails_fed}
+use Rattle.follower.specs.Following.{ArrivesNext, Following, Makes, to_come, lines_ahead, mails_ahead}
+use Rattle.follower.specs.Going.{MakesFirst, RefusesFirst, StopsAt}
+use Rattle.follower.specs.Reached.{is_refused}
 
 -- ---- one change
-
-pub made : (s : State) (f : Fed) (rest : Feed) → is_refused s f.change ≡ false → reached s (fed_first f rest) ≡ reached (after_fed s f) rest
-made s f rest room = rw room refl
-
-pub no_room : (s : State) (f : Fed) (rest : Feed) → is_refused s f.change ≡ true → (reached s (fed_first f rest)).stop ≡ Some Full
-no_room s f rest full = rw full refl
 
 -- an arrival takes the next uid
 arrives : (m : Mailbox) (uid : ℕ) (mail : Mail) → (after m (arrival_of uid mail)).next_uid ≡ m.next_uid + 1
@@ -49,111 +44,105 @@ arrives m uid mail = by (nat_lt max_mail_len (length mail.bytes)) (card_of uid m
     by false (Ok card) = refl
     by false (Err why) = refl
 
+-- the first of a feed is this change, and these are the others
+module _ (s t : State) (change : Change) (q : Position) (f : Fed) (is : ◌≡◌ {A = Change × Position} (change, q) (f.change, f.position)) where
+  pub makes_first : (rest others : Feed) → is_refused s change ≡ false → t ≡ after_fed s (record { change = change; position = q }) → rest ≡ others → MakesFirst s (fed_first f rest) t others
+  makes_first rest others room state same = record {
+    fed = f;
+    first = ap (fed_first f) same;
+    room = ap (λ x. is_refused s x.0) (sym is) ∙ room;
+    state = state ∙ ap (λ x. after_fed s (record { change = x.0; position = x.1 })) is;
+  }
+
+  pub refuses_first : (rest : Feed) → is_refused s change ≡ true → RefusesFirst s (fed_first f rest)
+  refuses_first rest refused = record { fed = f; others = rest; first = refl; refused = ap (λ x. is_refused s x.0) (sym is) ∙ refused }
+
 -- ---- a mail
 
-mail_made : (s : State) (mail : Mail) (p : Position) → State
-mail_made s mail p = after_fed s (mail_fed s.mailbox.next_uid p mail)
+mail_goes : (s t : State) (mail : Mail) (mails others : List Mail) (change : Change) (q : Position) → change ≡ arrival_of s.mailbox.next_uid mail → q ≡ at_mail (counted s.position) mail → others ≡ mails
+    → is_refused s change ≡ false → t ≡ after_fed s (record { change = change; position = q })
+    → MakesFirst s (mails_fed s.mailbox.next_uid s.position (mail ∷ mails)) t (mails_fed t.mailbox.next_uid t.position others)
+mail_goes s t mail mails others change q c p o room state =
+    let uid = s.mailbox.next_uid in
+    let f = mail_fed uid s.position mail in
+    let is : ◌≡◌ {A = Change × Position} (change, q) (f.change, f.position) = λ i. (c i, p i) in
+    let here : t ≡ after_fed s f = state ∙ ap (λ (x : Change × Position). after_fed s (record { change = x.0; position = x.1 })) is in
+    makes_first s t change q f is (mails_fed (uid + 1) f.position mails) (mails_fed t.mailbox.next_uid t.position others) room state
+    (ap (λ uid. mails_fed uid f.position mails) (sym (arrives s.mailbox uid mail))
+    ∙ ap (λ ms. mails_fed (after_fed s f).mailbox.next_uid f.position ms) (sym o)
+    ∙ ap (λ (x : State). mails_fed x.mailbox.next_uid x.position others) (sym here))
 
-pub mail_goes : (s t : State) (mail : Mail) (mails others : List Mail) (change : Change) (place : ℕ) → change ≡ arrival_of s.mailbox.next_uid mail → place ≡ mail.end → others ≡ mails
-    → is_refused s change ≡ false → t ≡ after_fed s (record { change = change; position = record (counted s.position) { mbox = place } })
-    → reached s (mails_fed s.mailbox.next_uid s.position (mail ∷ mails)) ≡ reached t (mails_fed t.mailbox.next_uid t.position others)
-mail_goes s t mail mails others change place c e o room is =
-    let f = mail_fed s.mailbox.next_uid s.position mail in
-    let here : t ≡ after_fed s f = is ∙ ap (λ c. after_fed s (record { change = c; position = record (counted s.position) { mbox = place } })) c
-    ∙ ap (λ place. after_fed s (record { change = arrival_of s.mailbox.next_uid mail; position = record (counted s.position) { mbox = place } })) e in
-    let rest : (uid : ℕ) → Feed = λ uid. mails_fed uid f.position mails in
-    made s f (rest (s.mailbox.next_uid + 1)) (ap (is_refused s) (sym c) ∙ room)
-    ∙ ap (λ uid. reached (after_fed s f) (rest uid)) (sym (arrives s.mailbox s.mailbox.next_uid mail))
-    ∙ ap (λ ms. reached (after_fed s f) (mails_fed (after_fed s f).mailbox.next_uid (after_fed s f).position ms)) (sym o)
-    ∙ ap (λ t. reached t (mails_fed t.mailbox.next_uid t.position others)) (sym here)
-
-pub mail_full : (s : State) (mail : Mail) (mails : List Mail) (change : Change) → change ≡ arrival_of s.mailbox.next_uid mail → is_refused s change ≡ true
-    → (reached s (mails_fed s.mailbox.next_uid s.position (mail ∷ mails))).stop ≡ Some Full
+mail_full : (s : State) (mail : Mail) (mails : List Mail) (change : Change) → change ≡ arrival_of s.mailbox.next_uid mail → is_refused s change ≡ true
+    → RefusesFirst s (mails_fed s.mailbox.next_uid s.position (mail ∷ mails))
 mail_full s mail mails change c full =
-    no_room s (mail_fed s.mailbox.next_uid s.position mail) (mails_fed (s.mailbox.next_uid + 1) (at_mail (counted s.position) mail) mails) (ap (is_refused s) (sym c) ∙ full)
+    let f = mail_fed s.mailbox.next_uid s.position mail in
+    refuses_first s s change f.position f (λ i. (c i, f.position)) (mails_fed (s.mailbox.next_uid + 1) f.position mails) full
 
 -- ---- a line
 
 abbrev later : Option ℕ → List (List ℕ) → ℕ → Position → List Mail → Feed
 later last lines = λ uid p mails. lines_fed last uid p mails lines
 
--- of a line whose step is known
-step_goes : (last : Option ℕ) (s : State) (raw : List ℕ) (lines : List (List ℕ)) (st : Step) (mails others : List Mail) (change : Change) (q : Position)
-    → Makes st s.mailbox.next_uid (counted (at_line s.position raw)) mails (change, q) others → is_refused s change ≡ false
-    → let t = after_fed s (record { change = change; position = q }) in
-    reached s (line_fed (Some st) s.mailbox.next_uid s.position raw mails (later last lines)) ≡ reached t (lines_fed last t.mailbox.next_uid t.position others lines)
-step_goes last s raw lines step.Next [] others change q m room = absurd m
-step_goes last s raw lines step.Next (mail ∷ mails) others change q m room =
-    let uid = s.mailbox.next_uid in
-    let f = mail_fed uid (at_line s.position raw) mail in
-    let c : change ≡ f.change = ap (λ x. x.0) m.0 in
-    let p : q ≡ f.position = ap (λ x. x.1) m.0 in
-    made s f (later last lines (uid + 1) f.position mails) (ap (is_refused s) (sym c) ∙ room)
-    ∙ ap (λ uid. reached (after_fed s f) (later last lines uid f.position mails)) (sym (arrives s.mailbox uid mail))
-    ∙ ap (λ ms. reached (after_fed s f) (later last lines (after_fed s f).mailbox.next_uid f.position ms)) (sym m.1)
-    ∙ ap (λ x. let t = after_fed s (record { change = x.0; position = x.1 }) in reached t (lines_fed last t.mailbox.next_uid t.position others lines)) (sym m.0)
-step_goes last s raw lines (step.Expunge n) mails others change q m room =
-    let f : Fed = record { change = Expunge n; position = counted (at_line s.position raw) } in
-    made s f (later last lines s.mailbox.next_uid f.position mails) (ap (λ x. is_refused s x.0) (sym m.0) ∙ room)
-    ∙ ap (λ ms. reached (after_fed s f) (later last lines s.mailbox.next_uid f.position ms)) (sym m.1)
-    ∙ ap (λ x. let t = after_fed s (record { change = x.0; position = x.1 }) in reached t (lines_fed last t.mailbox.next_uid t.position others lines)) (sym m.0)
-step_goes last s raw lines (step.Seen n) mails others change q m room =
-    let f : Fed = record { change = Seen n; position = counted (at_line s.position raw) } in
-    made s f (later last lines s.mailbox.next_uid f.position mails) (ap (λ x. is_refused s x.0) (sym m.0) ∙ room)
-    ∙ ap (λ ms. reached (after_fed s f) (later last lines s.mailbox.next_uid f.position ms)) (sym m.1)
-    ∙ ap (λ x. let t = after_fed s (record { change = x.0; position = x.1 }) in reached t (lines_fed last t.mailbox.next_uid t.position others lines)) (sym m.0)
-step_goes last s raw lines (step.At n) mails others change q m room =
-    let f : Fed = record { change = At n; position = counted (at_line s.position raw) } in
-    made s f (later last lines s.mailbox.next_uid f.position mails) (ap (λ x. is_refused s x.0) (sym m.0) ∙ room)
-    ∙ ap (λ ms. reached (after_fed s f) (later last lines s.mailbox.next_uid f.position ms)) (sym m.1)
-    ∙ ap (λ x. let t = after_fed s (record { change = x.0; position = x.1 }) in reached t (lines_fed last t.mailbox.next_uid t.position others lines)) (sym m.0)
+module _ (last : Option ℕ) (s t : State) (raw : List ℕ) (lines next : List (List ℕ)) (mails others : List Mail) (change : Change) (q : Position)
+    (n : next ≡ lines) (room : is_refused s change ≡ false) (state : t ≡ after_fed s (record { change = change; position = q })) where
+  -- a change after which the next uid is this one
+  step_made : (f : Fed) (left : List Mail) (uid : ℕ) → ◌≡◌ {A = Change × Position} (change, q) (f.change, f.position) → others ≡ left → (after_fed s f).mailbox.next_uid ≡ uid
+      → MakesFirst s (fed_first f (later last lines uid f.position left)) t (lines_fed last t.mailbox.next_uid t.position others next)
+  step_made f left uid is o u =
+      let here : t ≡ after_fed s f = state ∙ ap (λ (x : Change × Position). after_fed s (record { change = x.0; position = x.1 })) is in
+      makes_first s t change q f is (later last lines uid f.position left) (lines_fed last t.mailbox.next_uid t.position others next) room state
+      (ap (λ uid. later last lines uid f.position left) (sym u)
+      ∙ ap (λ ms. later last lines (after_fed s f).mailbox.next_uid f.position ms) (sym o)
+      ∙ ap (λ ls. lines_fed last (after_fed s f).mailbox.next_uid f.position others ls) (sym n)
+      ∙ ap (λ (x : State). lines_fed last x.mailbox.next_uid x.position others next) (sym here))
+
+  step_goes : (st : Step) → Makes st s.mailbox.next_uid (counted (at_line s.position raw)) mails (change, q) others
+      → MakesFirst s (line_fed (Some st) s.mailbox.next_uid s.position raw mails (later last lines)) t (lines_fed last t.mailbox.next_uid t.position others next)
+  step_goes st m = by st mails m
+    where
+      by : (st : Step) (mails : List Mail) → Makes st s.mailbox.next_uid (counted (at_line s.position raw)) mails (change, q) others
+          → MakesFirst s (line_fed (Some st) s.mailbox.next_uid s.position raw mails (later last lines)) t (lines_fed last t.mailbox.next_uid t.position others next)
+      by step.Next [] m = absurd m
+      by step.Next (mail ∷ mails) m = step_made (mail_fed s.mailbox.next_uid (at_line s.position raw) mail) mails (s.mailbox.next_uid + 1) m.0 m.1 (arrives s.mailbox s.mailbox.next_uid mail)
+      by (step.Expunge n) mails m = step_made (record { change = Expunge n; position = counted (at_line s.position raw) }) mails s.mailbox.next_uid m.0 m.1 refl
+      by (step.Seen n) mails m = step_made (record { change = Seen n; position = counted (at_line s.position raw) }) mails s.mailbox.next_uid m.0 m.1 refl
+      by (step.At n) mails m = step_made (record { change = At n; position = counted (at_line s.position raw) }) mails s.mailbox.next_uid m.0 m.1 refl
 
 step_full : (last : Option ℕ) (s : State) (raw : List ℕ) (lines : List (List ℕ)) (st : Step) (mails others : List Mail) (change : Change) (q : Position)
     → Makes st s.mailbox.next_uid (counted (at_line s.position raw)) mails (change, q) others → is_refused s change ≡ true
-    → (reached s (line_fed (Some st) s.mailbox.next_uid s.position raw mails (later last lines))).stop ≡ Some Full
+    → RefusesFirst s (line_fed (Some st) s.mailbox.next_uid s.position raw mails (later last lines))
 step_full last s raw lines step.Next [] others change q m full = absurd m
 step_full last s raw lines step.Next (mail ∷ mails) others change q m full =
     let f = mail_fed s.mailbox.next_uid (at_line s.position raw) mail in
-    no_room s f (later last lines (s.mailbox.next_uid + 1) f.position mails) (ap (λ x. is_refused s x.0) (sym m.0) ∙ full)
+    refuses_first s s change q f m.0 (later last lines (s.mailbox.next_uid + 1) f.position mails) full
 step_full last s raw lines (step.Expunge n) mails others change q m full =
     let p = counted (at_line s.position raw) in
-    no_room s (record { change = Expunge n; position = p }) (later last lines s.mailbox.next_uid p mails) (ap (λ x. is_refused s x.0) (sym m.0) ∙ full)
+    refuses_first s s change q (record { change = Expunge n; position = p }) m.0 (later last lines s.mailbox.next_uid p mails) full
 step_full last s raw lines (step.Seen n) mails others change q m full =
     let p = counted (at_line s.position raw) in
-    no_room s (record { change = Seen n; position = p }) (later last lines s.mailbox.next_uid p mails) (ap (λ x. is_refused s x.0) (sym m.0) ∙ full)
+    refuses_first s s change q (record { change = Seen n; position = p }) m.0 (later last lines s.mailbox.next_uid p mails) full
 step_full last s raw lines (step.At n) mails others change q m full =
     let p = counted (at_line s.position raw) in
-    no_room s (record { change = At n; position = p }) (later last lines s.mailbox.next_uid p mails) (ap (λ x. is_refused s x.0) (sym m.0) ∙ full)
+    refuses_first s s change q (record { change = At n; position = p }) m.0 (later last lines s.mailbox.next_uid p mails) full
 
 -- the lines, of which the first is what it is
-abbrev by_step : Option ℕ → State → List ℕ → List (List ℕ) → List Mail → Option Step → Reached
-by_step last s raw lines mails o = reached s (line_fed o s.mailbox.next_uid s.position raw mails (later last lines))
+abbrev by_step : Option ℕ → State → List ℕ → List (List ℕ) → List Mail → Option Step → Feed
+by_step last s raw lines mails o = line_fed o s.mailbox.next_uid s.position raw mails (later last lines)
 
-pub line_goes : (last : Option ℕ) (s t : State) (raw : List ℕ) (lines next : List (List ℕ)) (st : Step) (mails others : List Mail) (change : Change) (p q : Position)
+line_goes : (last : Option ℕ) (s t : State) (raw : List ℕ) (lines next : List (List ℕ)) (st : Step) (mails others : List Mail) (change : Change) (p q : Position)
     → step_of (content raw) ≡ Some st → next ≡ lines → p ≡ counted (at_line s.position raw) → Makes st s.mailbox.next_uid p mails (change, q) others
     → is_refused s change ≡ false → t ≡ after_fed s (record { change = change; position = q })
-    → reached s (lines_fed last s.mailbox.next_uid s.position mails (raw ∷ lines)) ≡ reached t (lines_fed last t.mailbox.next_uid t.position others next)
-line_goes last s t raw lines next st mails others change p q is n place m room e =
-    ap (by_step last s raw lines mails) is
-    ∙ step_goes last s raw lines st mails others change q (subst (λ p. Makes st s.mailbox.next_uid p mails (change, q) others) place m) room
-    ∙ ap (λ ls. let t = after_fed s (record { change = change; position = q }) in reached t (lines_fed last t.mailbox.next_uid t.position others ls)) (sym n)
-    ∙ ap (λ t. reached t (lines_fed last t.mailbox.next_uid t.position others next)) (sym e)
+    → MakesFirst s (lines_fed last s.mailbox.next_uid s.position mails (raw ∷ lines)) t (lines_fed last t.mailbox.next_uid t.position others next)
+line_goes last s t raw lines next st mails others change p q is n place m room state =
+    subst (λ o. MakesFirst s (by_step last s raw lines mails o) t (lines_fed last t.mailbox.next_uid t.position others next)) (sym is)
+    (step_goes last s t raw lines next mails others change q n room state st (subst (λ p. Makes st s.mailbox.next_uid p mails (change, q) others) place m))
 
-pub line_full : (last : Option ℕ) (s : State) (raw : List ℕ) (lines : List (List ℕ)) (st : Step) (mails others : List Mail) (change : Change) (p q : Position)
+line_full : (last : Option ℕ) (s : State) (raw : List ℕ) (lines : List (List ℕ)) (st : Step) (mails others : List Mail) (change : Change) (p q : Position)
     → step_of (content raw) ≡ Some st → p ≡ counted (at_line s.position raw) → Makes st s.mailbox.next_uid p mails (change, q) others → is_refused s change ≡ true
-    → (reached s (lines_fed last s.mailbox.next_uid s.position mails (raw ∷ lines))).stop ≡ Some Full
+    → RefusesFirst s (lines_fed last s.mailbox.next_uid s.position mails (raw ∷ lines))
 line_full last s raw lines st mails others change p q is place m full =
-    ap (λ o. (by_step last s raw lines mails o).stop) is
-    ∙ step_full last s raw lines st mails others change q (subst (λ p. Makes st s.mailbox.next_uid p mails (change, q) others) place m) full
-
-pub no_step : (last : Option ℕ) (s : State) (raw : List ℕ) (lines : List (List ℕ)) (mails : List Mail) → step_of (content raw) ≡ None
-    → (reached s (lines_fed last s.mailbox.next_uid s.position mails (raw ∷ lines))).stop ≡ Some (BadStep (s.position.lines + 1))
-no_step last s raw lines mails is = ap (λ o. (by_step last s raw lines mails o).stop) is
-
-pub no_mail : (last : Option ℕ) (s : State) (raw : List ℕ) (lines : List (List ℕ)) (mails : List Mail) → step_of (content raw) ≡ Some step.Next → mails ≡ []
-    → (reached s (lines_fed last s.mailbox.next_uid s.position mails (raw ∷ lines))).stop ≡ Some (BadStep (s.position.lines + 1))
-no_mail last s raw lines mails is none =
-    ap (λ ms. (reached s (lines_fed last s.mailbox.next_uid s.position ms (raw ∷ lines))).stop) none ∙ ap (λ o. (by_step last s raw lines [] o).stop) is
+    subst (λ o. RefusesFirst s (by_step last s raw lines mails o)) (sym is)
+    (step_full last s raw lines st mails others change q (subst (λ p. Makes st s.mailbox.next_uid p mails (change, q) others) place m) full)
 
 -- ---- the reader's answer
 
@@ -206,10 +195,6 @@ pub if_same : (l : Option (List ℕ)) (P : List ℕ → List ℕ → Type 0) →
 if_same None P f = tt
 if_same (Some b) P f = f b
 
-pub none_left : (old new : Following) (mails others : List Mail) → ArrivesNext old mails None new others → mails ≡ []
-none_left old new [] others h = refl
-none_left old new (mail ∷ mails) others h = absurd h
-
 pub makes_next : (old new : Following) (p : Position) (mails others : List Mail) (change : Change) → ArrivesNext old mails (Some change) new others
     → Makes step.Next old.state.mailbox.next_uid p mails (change, record p { mbox = new.mbox.place }) others
 makes_next old new p [] others change h = absurd h
@@ -228,22 +213,7 @@ next_makes l m old mid st p q o change next some known place = if_known l m _ _ 
 
 -- ---- a turn of a mail
 
-pub mail_end : (old new : Following) (mails others : List Mail) → ArrivesNext old mails None new others
-    → reached old.state (mails_fed old.state.mailbox.next_uid old.state.position mails) ≡ reached old.state (last_fed None old.state.position)
-mail_end old new mails others h = ap (λ ms. reached old.state (mails_fed old.state.mailbox.next_uid old.state.position ms)) (none_left old new mails others h)
-
-pub mail_applied : (old mid : Following) (t : State) (mails others : List Mail) (change : Change) → ArrivesNext old mails (Some change) mid others → is_refused old.state change ≡ false
-    → t ≡ after_fed old.state (record { change = change; position = record (counted old.state.position) { mbox = mid.mbox.place } })
-    → reached old.state (mails_fed old.state.mailbox.next_uid old.state.position mails) ≡ reached t (mails_fed t.mailbox.next_uid t.position others)
-mail_applied old mid t [] others change h room is = absurd h
-mail_applied old mid t (mail ∷ mails) others change h room is = mail_goes old.state t mail mails others change mid.mbox.place h.0 h.1 h.2 room is
-
-pub mail_refused : (old mid : Following) (mails others : List Mail) (change : Change) → ArrivesNext old mails (Some change) mid others → is_refused old.state change ≡ true
-    → (reached old.state (mails_fed old.state.mailbox.next_uid old.state.position mails)).stop ≡ Some Full
-mail_refused old mid [] others change h full = absurd h
-mail_refused old mid (mail ∷ mails) others change h full = mail_full old.state mail mails change h.0 full
-
--- the same between follower and source, over what the calls of a turn say
+-- over what the calls of a turn say
 module _ (l m : Option (List ℕ)) (old mid : Following) (o : Option Change) (change : Change) (rest : mid ≡ record old { mbox = mid.mbox }) (some : o ≡ Some change)
     (next : IfKnown l m (λ before after. ArrivesNext old (mails_ahead old before) o mid (mails_ahead mid after))) where
   same_state : mid.state ≡ old.state
@@ -254,20 +224,27 @@ module _ (l m : Option (List ℕ)) (old mid : Following) (o : Option Change) (ch
 
   pub mail_turns : (new : Following) (q : Position) → is_refused mid.state change ≡ false → new.state ≡ after_fed mid.state (record { change = change; position = q })
       → q ≡ record (counted mid.state.position) { mbox = mid.mbox.place } → new.mbox ≡ mid.mbox
-      → IfKnown l m (λ before after. ahead None old before None ≡ ahead None new after None)
+      → IfKnown l m (λ before after. MakesFirst old.state (to_come None old before None) new.state (to_come None new after None))
   mail_turns new q room is place same = arrived _ (λ before after h.
-      let t : new.state ≡ after_fed old.state (record { change = change; position = record (counted old.state.position) { mbox = mid.mbox.place } }) =
-      is ∙ ap (λ q. after_fed mid.state (record { change = change; position = q })) place
-      ∙ ap (λ (s : State). after_fed s (record { change = change; position = record (counted s.position) { mbox = mid.mbox.place } })) same_state in
-      mail_applied old mid new.state (mails_ahead old before) (mails_ahead mid after) change h (ap (λ s. is_refused s change) (sym same_state) ∙ room) t
-      ∙ ap (λ (r : Reading). reached new.state (mails_fed new.state.mailbox.next_uid new.state.position (mails_from (mbox_position r) (r.held ++ after)))) (sym same))
+      subst (λ (r : Reading). MakesFirst old.state (to_come None old before None) new.state (mails_fed new.state.mailbox.next_uid new.state.position (mails_from (mbox_position r) (r.held ++ after)))) (sym same)
+      (by (mails_ahead old before) (mails_ahead mid after) h))
+    where
+      by : (mails others : List Mail) → ArrivesNext old mails (Some change) mid others
+          → MakesFirst old.state (mails_fed old.state.mailbox.next_uid old.state.position mails) new.state (mails_fed new.state.mailbox.next_uid new.state.position others)
+      by [] others h = absurd h
+      by (mail ∷ mails) others h = mail_goes old.state new.state mail mails others change q h.0
+          (place ∙ ap (λ (s : State). record (counted s.position) { mbox = mid.mbox.place }) same_state ∙ ap (λ place. record (counted old.state.position) { mbox = place }) h.1) h.2
+          (ap (λ s. is_refused s change) (sym same_state) ∙ room) (is ∙ ap (λ s. after_fed s (record { change = change; position = q })) same_state)
 
   pub mail_stops : (why : RunFault) → (why ≡ fault.Full) ⊎ (why ≡ fault.Memory) → (why ≡ fault.Full → is_refused mid.state change ≡ true)
-      → IfKnown l m (λ before after. Stops why (ahead None old before None))
+      → IfKnown l m (λ before after. StopsAt why old.state (to_come None old before None))
   mail_stops why (inl full) refused = arrived _ (λ before after h.
-      subst (λ why. Stops why (ahead None old before None)) (sym full)
-      (mail_refused old mid (mails_ahead old before) (mails_ahead mid after) change h (ap (λ s. is_refused s change) (sym same_state) ∙ refused full)))
-  mail_stops why (inr memory) refused = arrived _ (λ before after h. subst (λ why. Stops why (ahead None old before None)) (sym memory) tt)
+      subst (λ why. StopsAt why old.state (to_come None old before None)) (sym full) (by (mails_ahead old before) (mails_ahead mid after) h))
+    where
+      by : (mails others : List Mail) → ArrivesNext old mails (Some change) mid others → RefusesFirst old.state (mails_fed old.state.mailbox.next_uid old.state.position mails)
+      by [] others h = absurd h
+      by (mail ∷ mails) others h = mail_full old.state mail mails change h.0 (ap (λ s. is_refused s change) (sym same_state) ∙ refused full)
+  mail_stops why (inr memory) refused = arrived _ (λ before after h. subst (λ why. StopsAt why old.state (to_come None old before None)) (sym memory) tt)
 
 -- the same of a turn of a line
 module _ (l m k n : Option (List ℕ)) (old here mid : Following) (a : TakenLine) (st : Step) (p : Position) (made : Change × Position)
@@ -299,31 +276,34 @@ module _ (l m k n : Option (List ℕ)) (old here mid : Following) (a : TakenLine
 
   pub line_turns : (new : Following) (last : Option ℕ) → is_refused mid.state made.0 ≡ false → new.state ≡ after_fed mid.state (record { change = made.0; position = made.1 })
       → new.mbox ≡ mid.mbox → new.lines ≡ here.lines
-      → IfKnown l m (λ mails_before mails_after. IfKnown k n (λ before after. ahead last old mails_before (Some before) ≡ ahead last new mails_after (Some after)))
+      → IfKnown l m (λ mails_before mails_after. IfKnown k n (λ before after.
+      MakesFirst old.state (to_come last old mails_before (Some before)) new.state (to_come last new mails_after (Some after))))
   line_turns new last room state same_mbox same_lines = stepped _ (λ mails_before mails_after before after h g.
-      by before after mails_before mails_after h (lines_ahead old before) g
-      ∙ ap (λ (r : StepsReading). reached new.state (lines_fed last new.state.mailbox.next_uid new.state.position (mails_ahead mid mails_after) (ended_lines (r.held ++ after)))) (sym same_lines)
-      ∙ ap (λ (r : Reading). reached new.state (lines_fed last new.state.mailbox.next_uid new.state.position (mails_from (mbox_position r) (r.held ++ mails_after)) (lines_ahead new after))) (sym same_mbox))
+      subst (λ (r : Reading). MakesFirst old.state (to_come last old mails_before (Some before)) new.state
+      (lines_fed last new.state.mailbox.next_uid new.state.position (mails_from (mbox_position r) (r.held ++ mails_after)) (lines_ahead new after))) (sym same_mbox)
+      (subst (λ (r : StepsReading). MakesFirst old.state (to_come last old mails_before (Some before)) new.state
+      (lines_fed last new.state.mailbox.next_uid new.state.position (mails_ahead mid mails_after) (ended_lines (r.held ++ after)))) (sym same_lines)
+      (by before after mails_before mails_after h (lines_ahead old before) g)))
     where
       by : (before after mails_before mails_after : List ℕ) → Makes st old.state.mailbox.next_uid p (mails_ahead old mails_before) made (mails_ahead mid mails_after)
           → (ls : List (List ℕ)) → IsNextLine ls (taken_line.Step st) old.lines here.lines (lines_ahead here after)
-          → reached old.state (lines_fed last old.state.mailbox.next_uid old.state.position (mails_ahead old mails_before) ls)
-          ≡ reached new.state (lines_fed last new.state.mailbox.next_uid new.state.position (mails_ahead mid mails_after) (lines_ahead here after))
+          → MakesFirst old.state (lines_fed last old.state.mailbox.next_uid old.state.position (mails_ahead old mails_before) ls) new.state
+          (lines_fed last new.state.mailbox.next_uid new.state.position (mails_ahead mid mails_after) (lines_ahead here after))
       by before after mails_before mails_after h [] g = absurd g
       by before after mails_before mails_after h (raw ∷ ls) g =
           line_goes last old.state new.state raw ls (lines_ahead here after) st (mails_ahead old mails_before) (mails_ahead mid mails_after) made.0 p made.1
           g.0 g.2 (at_raw raw g.1) h (ap (λ s. is_refused s made.0) (sym mid_state) ∙ room) (state ∙ ap (λ s. after_fed s (record { change = made.0; position = made.1 })) mid_state)
 
   pub line_stops : (last : Option ℕ) (why : RunFault) → (why ≡ fault.Full) ⊎ (why ≡ fault.Memory) → (why ≡ fault.Full → is_refused mid.state made.0 ≡ true)
-      → IfKnown l m (λ mails_before mails_after. IfKnown k n (λ before after. Stops why (ahead last old mails_before (Some before))))
+      → IfKnown l m (λ mails_before mails_after. IfKnown k n (λ before after. StopsAt why old.state (to_come last old mails_before (Some before))))
   line_stops last why (inr memory) refused = stepped _ (λ mails_before mails_after before after h g.
-      subst (λ why. Stops why (ahead last old mails_before (Some before))) (sym memory) tt)
+      subst (λ why. StopsAt why old.state (to_come last old mails_before (Some before))) (sym memory) tt)
   line_stops last why (inl full) refused = stepped _ (λ mails_before mails_after before after h g.
-      subst (λ why. Stops why (ahead last old mails_before (Some before))) (sym full) (by before after mails_before mails_after h (lines_ahead old before) g))
+      subst (λ why. StopsAt why old.state (to_come last old mails_before (Some before))) (sym full) (by before after mails_before mails_after h (lines_ahead old before) g))
     where
       by : (before after mails_before mails_after : List ℕ) → Makes st old.state.mailbox.next_uid p (mails_ahead old mails_before) made (mails_ahead mid mails_after)
           → (ls : List (List ℕ)) → IsNextLine ls (taken_line.Step st) old.lines here.lines (lines_ahead here after)
-          → (reached old.state (lines_fed last old.state.mailbox.next_uid old.state.position (mails_ahead old mails_before) ls)).stop ≡ Some Full
+          → RefusesFirst old.state (lines_fed last old.state.mailbox.next_uid old.state.position (mails_ahead old mails_before) ls)
       by before after mails_before mails_after h [] g = absurd g
       by before after mails_before mails_after h (raw ∷ ls) g =
           line_full last old.state raw ls st (mails_ahead old mails_before) (mails_ahead mid mails_after) made.0 p made.1

@@ -21,8 +21,9 @@ use Rattle.follower.specs.declared.follower.Turned.{Turned}
 use Rattle.follower.specs.declared.follower.Turned.TheVariants as turned
 use Rattle.state_image.specs.declared.position.Position.{Position}
 use Rattle.follower.specs.Arrivals.{arrival_of}
-use Rattle.follower.specs.Feed.{State, at_mail, coming, last_fed}
-use Rattle.follower.specs.Reached.{Reached, Full, BadStep, max_changes, reached}
+use Rattle.follower.specs.Feed.{Feed, State, at_mail, coming, last_fed}
+use Rattle.follower.specs.Going.{MakesFirst, StopsAt, Leads, LeadsToStop}
+use Rattle.follower.specs.Reached.{max_changes}
 
 -- the state that it has followed to, its two readers, and whether its engine is stale
 pub record Following : Type 0 where
@@ -90,27 +91,20 @@ abbrev pub Raises : Following → Following → Turned → Type 0
 Raises old new turned.Applied = (old.state.position.count < new.state.position.count) × (new.state.position.count ≤ max_changes)
 Raises old new turned.End = ⊤
 
--- How far the changes come that its files still give, where its sources have this left. The moment comes after the lines.
-abbrev pub ahead : Option ℕ → Following → Bytes → Option Bytes → Reached
-ahead last f mbox steps = reached f.state (coming last f.state (mails_ahead f mbox) (option_map (lines_ahead f) steps))
+-- The changes that its files still give, where its sources have this left. The moment comes after the lines.
+abbrev pub to_come : Option ℕ → Following → Bytes → Option Bytes → Feed
+to_come last f mbox steps = coming last f.state (mails_ahead f mbox) (option_map (lines_ahead f) steps)
 
--- the files come to no end, for this reason
-abbrev pub Stops : RunFault → Reached → Type 0
-Stops fault.Full r = r.stop ≡ Some Full
-Stops (fault.Steps number) r = r.stop ≡ Some (BadStep number)
-Stops _ r = ⊤
-
--- A turn makes the next change, so the others lie ahead after it; at the end there is none.
-abbrev pub TurnGoes : Option ℕ → Result Turned RunFault → Following → Reached → Following → Reached → Type 0
-TurnGoes last (Ok turned.Applied) old before new after = before ≡ after
-TurnGoes last (Ok turned.End) old before new after =
-    (before ≡ reached old.state (last_fed last old.state.position)) × (new.state ≡ old.state)
-TurnGoes last (Err why) old before new after = Stops why before
+-- A turn makes the next change, so the others are to come after it; at the end there is none.
+abbrev pub TurnGoes : Option ℕ → Result Turned RunFault → Following → Feed → Following → Feed → Type 0
+TurnGoes last (Ok turned.Applied) old before new after = MakesFirst old.state before new.state after
+TurnGoes last (Ok turned.End) old before new after = (before ≡ last_fed last old.state.position) × (new.state ≡ old.state)
+TurnGoes last (Err why) old before new after = StopsAt why old.state before
 
 -- All turns together make all changes of the files.
-abbrev pub AllGo : Option ℕ → {T : Type 0} → Result T RunFault → Reached → Following → Type 0
-AllGo last (Ok _) before new = before ≡ reached new.state (last_fed last new.state.position)
-AllGo last (Err why) before new = Stops why before
+abbrev pub AllGo : Option ℕ → {T : Type 0} → Result T RunFault → Following → Feed → Following → Type 0
+AllGo last (Ok _) old before new = Leads old.state before new.state (last_fed last new.state.position)
+AllGo last (Err why) old before new = LeadsToStop why old.state before
 
 -- Why a turn is refused, beside what the files say: a fault of an input that rose, or its budget that was taken.
 abbrev pub IsTurnCause : (mbox_rose steps_rose : Type 0) → Following → RunFault → Type 0

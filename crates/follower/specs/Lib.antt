@@ -2,4 +2,5 @@
 pub mod Arrivals
 pub mod Feed
 pub mod Reached
+pub mod Going
 pub mod Following

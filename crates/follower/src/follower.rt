@@ -7,7 +7,7 @@ ghost use Rattle.outside.specs.Causes.{Rose};
 ghost use Rattle.source_buffer.specs.Known.{IfKnown};
 ghost use Rattle.steps_file.specs.Reading as steps_reading;
 ghost use Rattle.follower.specs.Feed.{after_fed, first_state, moment_fed};
-ghost use Rattle.follower.specs.Following.{ArrivesNext, IsTurnCause, IsUsable, LacksMail, Makes, MakesMoment, Raises, TurnGoes, ahead, mails_ahead};
+ghost use Rattle.follower.specs.Following.{ArrivesNext, IsTurnCause, IsUsable, LacksMail, Makes, MakesMoment, Raises, TurnGoes, to_come, mails_ahead};
 ghost use Rattle.follower.specs.Reached.{is_refused, max_changes};
 ghost use Rattle.follower.specs.declared.fault.Input.TheVariants.{Mbox};
 ghost use Rattle.follower.specs.declared.fault.RunFault.TheVariants as fault;
@@ -189,7 +189,7 @@ impl Follower {
     ) -> Result<Turned, RunFault>
         requires usable { IsUsable self.old }
         ensures goes { IfKnown (M.left mbox.old) (M.left mbox.new) (λ before after.
-            TurnGoes None result self.old (ahead None self.old before None) self.new (ahead None self.new after None)) }
+            TurnGoes None result self.old (to_come None self.old before None) self.new (to_come None self.new after None)) }
         ensures usable { OnOk result (IsUsable self.new) }
         ensures raised { IfOk result (Raises self.old self.new) }
         ensures later { M.faults mbox.old ≤ M.faults mbox.new }
@@ -254,8 +254,8 @@ impl Follower {
         requires usable { IsUsable self.old }
         ensures goes { (last : Option ℕ) → IfKnown (M.left mbox.old) (M.left mbox.new) (λ mbox_before mbox_after.
             IfKnown (S.left steps_file.old) (S.left steps_file.new) (λ steps_before steps_after.
-            TurnGoes last result self.old (ahead last self.old mbox_before (Some steps_before)) self.new
-            (ahead last self.new mbox_after (Some steps_after)))) }
+            TurnGoes last result self.old (to_come last self.old mbox_before (Some steps_before)) self.new
+            (to_come last self.new mbox_after (Some steps_after)))) }
         ensures usable { OnOk result (IsUsable self.new) }
         ensures raised { IfOk result (Raises self.old self.new) }
         ensures mbox_later { M.faults mbox.old ≤ M.faults mbox.new }

@@ -4,7 +4,7 @@ ghost use Rattle.mboxrd.specs.Reading as mbox_reading;
 ghost use Rattle.outside.specs.Causes.{Rose};
 ghost use Rattle.source_buffer.specs.Known.{IfKnown};
 ghost use Rattle.steps_file.specs.Reading as steps_reading;
-ghost use Rattle.follower.specs.Following.{AllGo, IsTurnCause, IsUsable, ahead};
+ghost use Rattle.follower.specs.Following.{AllGo, IsTurnCause, IsUsable, to_come};
 
 use crate::fault::RunFault;
 use crate::follower::{Follower, Turned};
@@ -22,7 +22,7 @@ pub fn follow_mails<M: Source, L: Ledger>(
 ) -> Result<(), RunFault>
     requires usable { IsUsable follower.old }
     ensures goes { IfKnown (M.left mbox.old) (M.left mbox.new) (λ before after.
-        AllGo None result (ahead None follower.old before None) follower.new) }
+        AllGo None result follower.old (to_come None follower.old before None) follower.new) }
     ensures usable { OnOk result (IsUsable follower.new) }
     ensures later { M.faults mbox.old ≤ M.faults mbox.new }
     ensures cause { IfErr result (IsTurnCause (Rose (M.faults mbox.old) (M.faults mbox.new)) ⊥ follower.new) }
@@ -49,7 +49,7 @@ pub fn follow_lines<M: Source, S: Source, L: Ledger>(
     requires usable { IsUsable follower.old }
     ensures goes { (last : Option ℕ) → IfKnown (M.left mbox.old) (M.left mbox.new) (λ mbox_before mbox_after.
         IfKnown (S.left steps_file.old) (S.left steps_file.new) (λ steps_before steps_after.
-        AllGo last result (ahead last follower.old mbox_before (Some steps_before)) follower.new)) }
+        AllGo last result follower.old (to_come last follower.old mbox_before (Some steps_before)) follower.new)) }
     ensures usable { OnOk result (IsUsable follower.new) }
     ensures mbox_later { M.faults mbox.old ≤ M.faults mbox.new }
     ensures steps_later { S.faults steps_file.old ≤ S.faults steps_file.new }

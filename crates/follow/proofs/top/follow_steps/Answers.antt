@@ -3,7 +3,7 @@ use Rattle.std.proofs.lemmas.Result.{err_from_is_err_and}
 use Rattle.outside.specs.Causes.{Rose}
 use Rattle.mboxrd.specs.Reading as mbox
 use Rattle.steps_file.specs.Reading as steps
-use Rattle.follower.specs.Following.{Stops}
+use Rattle.follow.specs.Replies.{Stops}
 use Rattle.follow.specs.Outcome.{TakesAll, mbox_budget, steps_budget}
 use Rattle.follow.proofs.FromTheStart.{Started, caused, lines_all, lines_stop, took_all, took_within}
 use Rattle.follow.proofs.top.follow_steps.Goals as goal

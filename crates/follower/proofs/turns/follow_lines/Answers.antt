@@ -1,9 +1,6 @@
 use Rattle.std.proofs.lemmas.Result.{err_from_is_err_and}
-use Rattle.std.proofs.Common.{◌≡◌, ◌∙◌, Some, ap, arith, sym}
-use Rattle.follower.specs.Feed.{State, last_fed}
-use Rattle.follower.specs.Following.{Stops, ahead}
-use Rattle.follower.specs.Reached.{reached}
-use Rattle.follower.proofs.Going.{line_came, line_ended, mbox_takes, steps_takes, two_more, two_then}
+use Rattle.std.proofs.Common.{arith}
+use Rattle.follower.proofs.Going.{line_came, line_ended, line_stopped, mbox_takes, steps_takes}
 use Rattle.follower.proofs.turns.follow_lines.Goals as goal
 
 pub returns-in_err-turn_line-clause-mbox_took : goal.returns-in_err-turn_line-clause-mbox_took
@@ -23,12 +20,9 @@ loop-preserved g c =
       steps_later = omega (arith, past.steps_later, turn.steps_later);
       mbox_took = mbox_takes (g.M.Source.left c.args.mbox.now) (g.M.Source.left c.loop.mbox) (g.M.Source.left c.turn_line.new.mbox) c.args.follower.now.mbox c.loop.follower.mbox c.turn_line.new.self.mbox past.mbox_took turn.mbox_took;
       steps_took = steps_takes (g.S.Source.left c.args.steps_file.now) (g.S.Source.left c.loop.steps_file) (g.S.Source.left c.turn_line.new.steps_file) c.args.follower.now.lines c.loop.follower.lines c.turn_line.new.self.lines past.steps_took turn.steps_took;
-      goes = λ last. two_more (g.M.Source.left c.args.mbox.now) (g.M.Source.left c.loop.mbox) (g.M.Source.left c.turn_line.new.mbox)
-          (g.S.Source.left c.args.steps_file.now) (g.S.Source.left c.loop.steps_file) (g.S.Source.left c.turn_line.new.steps_file)
-          (λ mails lines. ahead last c.args.follower.now mails (Some lines)) (λ mails lines. ahead last c.loop.follower mails (Some lines)) (λ mails lines. ahead last c.turn_line.new.self mails (Some lines))
-          (past.goes last)
-          (line_came (g.M.Source.left c.loop.mbox) (g.M.Source.left c.turn_line.new.mbox) (g.S.Source.left c.loop.steps_file) (g.S.Source.left c.turn_line.new.steps_file)
-          c.loop.follower c.turn_line.new.self c.in_ok-turn_line.field-0 last c.in-Applied.is (turn.goes last));
+      goes = λ last. line_came (g.M.Source.left c.args.mbox.now) (g.M.Source.left c.loop.mbox) (g.M.Source.left c.turn_line.new.mbox)
+          (g.S.Source.left c.args.steps_file.now) (g.S.Source.left c.loop.steps_file) (g.S.Source.left c.turn_line.new.steps_file) last c.args.follower.now c.loop.follower
+          (past.goes last) c.turn_line.new.self c.in_ok-turn_line.field-0 c.in-Applied.is (turn.goes last);
     }
 
 pub returns-in-End-clause-mbox_took : goal.returns-in-End-clause-mbox_took
@@ -42,19 +36,12 @@ returns-in-End-clause-steps_took g c =
 pub returns-in_err-turn_line-clause-goes : goal.returns-in_err-turn_line-clause-goes
 returns-in_err-turn_line-clause-goes g c = λ last.
     let p = err_from_is_err_and c.from_residual.result c.from_residual.ensures.1 in
-    rw (p.1, p.2) (two_then (g.M.Source.left c.args.mbox.now) (g.M.Source.left c.loop.mbox) (g.M.Source.left c.turn_line.new.mbox)
-    (g.S.Source.left c.args.steps_file.now) (g.S.Source.left c.loop.steps_file) (g.S.Source.left c.turn_line.new.steps_file)
-    (λ mails lines. ahead last c.args.follower.now mails (Some lines)) (λ mails lines. ahead last c.loop.follower mails (Some lines))
-    (Stops c.in_err-turn_line.field-0.0) (Stops c.in_err-turn_line.field-0.0) (λ r h. h) (c.loop.invariant.goes last) (c.in_err-turn_line.ensures.goes last))
+    rw (p.1, p.2) (line_stopped (g.M.Source.left c.args.mbox.now) (g.M.Source.left c.loop.mbox) (g.M.Source.left c.turn_line.new.mbox)
+    (g.S.Source.left c.args.steps_file.now) (g.S.Source.left c.loop.steps_file) (g.S.Source.left c.turn_line.new.steps_file) last c.args.follower.now c.loop.follower
+    (c.loop.invariant.goes last) c.in_err-turn_line.field-0.0 (c.in_err-turn_line.ensures.goes last))
 
 pub returns-in-End-clause-goes : goal.returns-in-End-clause-goes
 returns-in-End-clause-goes g c = λ last.
-    let now = c.loop.follower in
-    let new = c.turn_line.new.self in
-    two_then (g.M.Source.left c.args.mbox.now) (g.M.Source.left c.loop.mbox) (g.M.Source.left c.turn_line.new.mbox)
-    (g.S.Source.left c.args.steps_file.now) (g.S.Source.left c.loop.steps_file) (g.S.Source.left c.turn_line.new.steps_file)
-    (λ mails lines. ahead last c.args.follower.now mails (Some lines)) (λ mails lines. ahead last now mails (Some lines))
-    (λ r. (r ≡ reached now.state (last_fed last now.state.position)) × (new.state ≡ now.state)) (λ r. r ≡ reached new.state (last_fed last new.state.position))
-    (λ r h. h.0 ∙ ap (λ (s : State). reached s (last_fed last s.position)) (sym h.1)) (c.loop.invariant.goes last)
-    (line_ended (g.M.Source.left c.loop.mbox) (g.M.Source.left c.turn_line.new.mbox) (g.S.Source.left c.loop.steps_file) (g.S.Source.left c.turn_line.new.steps_file)
-    now new c.in_ok-turn_line.field-0 last c.in-End.is (c.in_ok-turn_line.ensures.goes last))
+    line_ended (g.M.Source.left c.args.mbox.now) (g.M.Source.left c.loop.mbox) (g.M.Source.left c.turn_line.new.mbox)
+    (g.S.Source.left c.args.steps_file.now) (g.S.Source.left c.loop.steps_file) (g.S.Source.left c.turn_line.new.steps_file) last c.args.follower.now c.loop.follower
+    (c.loop.invariant.goes last) c.turn_line.new.self c.in_ok-turn_line.field-0 c.in-End.is (c.in_ok-turn_line.ensures.goes last)
