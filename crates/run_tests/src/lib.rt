@@ -1,10 +1,14 @@
-//! Tests of the devices, of images, of slots, of the tail and of whole runs. It has no code of its own.
+//! Tests of the devices, of images, of slots, of the tail, of the keeper and of whole runs. It has no code of its own.
 #![tactic(auto)]
 
+#[cfg(test)]
+mod commits;
 #[cfg(test)]
 mod devices;
 #[cfg(test)]
 mod disk_model;
+#[cfg(test)]
+mod full_tail;
 #[cfg(test)]
 mod images;
 #[cfg(test)]
