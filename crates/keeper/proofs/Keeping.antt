@@ -49,9 +49,6 @@ written_more p change written fits few = record {
   few = omega (arith, few);
 }
 
-pub none_written : AreWritten none_pending
-none_written = record { held = []; are = record { spelled = record { length_is = refl; text = refl }; fits = tt }; few = omega arith }
-
 -- ---- what is kept
 
 same_me : (m : Mailbox) (change : Change) → (after m change).me ≡ m.me

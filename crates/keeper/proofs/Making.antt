@@ -1,14 +1,12 @@
 -- Changes and groups that are made one after the other.
-use Rattle.std.proofs.Common.{◌≡◌, ℕ, zero, suc, ◌<◌, List, [], ◌∷◌, ◌++◌, length, take, drop, get_or, map, Bool, true, false, cond, Result, Ok, Err, inl, inr, refl, sym, ◌∙◌, ap, subst, arith, map-id}
+use Rattle.std.proofs.Common.{◌≡◌, ℕ, zero, suc, ◌<◌, List, [], ◌∷◌, ◌++◌, length, take, drop, get_or, map, Bool, cond, Result, Ok, Err, inl, inr, refl, sym, ◌∙◌, ap, subst, arith, map-id}
 use Rattle.std.proofs.lemmas.List.{map-append}
 use Rattle.std.specs.List.{AllByRecursion}
 use Rattle.std.proofs.lemmas.Bool.{cases_Bool}
 use Rattle.outside.specs.declared.shelf.Place.{Place}
 use Rattle.mailbox_model.specs.declared.change.Change.{Change}
-use Rattle.mailbox_model.specs.declared.change.Change.TheVariants.{Arrive, ArriveFault, Expunge, Seen, At}
-use Rattle.mailbox_model.specs.Mailbox.{Mailbox, after, full, IsValidChange}
+use Rattle.mailbox_model.specs.Mailbox.{Mailbox, after, full}
 use Rattle.card_record.specs.Reading.{◌>>=◌}
-use Rattle.state_image.specs.Changes.{FitsChange}
 use Rattle.tail_journal.specs.Groups.{Applied}
 use Rattle.tail_journal.specs.Read.{applied_of, FitsApplied}
 use Rattle.tail_journal.specs.declared.group.Group.{Group}
@@ -17,13 +15,6 @@ use Rattle.state_store.specs.Stands.{made, after_group, after_groups, in_tail}
 use Rattle.state_store.specs.declared.fault.StoreFault.{StoreFault}
 use Rattle.state_store.specs.declared.fault.StoreFault.TheVariants as fault
 use Rattle.keeper.specs.Opening.{Fails}
-
-pub valid_change : (change : Change) → FitsChange change → IsValidChange change
-valid_change (Arrive card) fits = fits
-valid_change (ArriveFault why) fits = tt
-valid_change (Expunge uid) fits = tt
-valid_change (Seen uid) fits = tt
-valid_change (At moment) fits = fits
 
 -- ---- one item of a list
 
@@ -50,13 +41,6 @@ fails_first fault.Disk x f fails = absurd fails
 fails_first fault.Memory x f fails = tt
 
 -- ---- changes
-
-module _ (m : Mailbox) (at : ℕ) (change : Change) where
-  pub made_one : full m change ≡ false → made m ((at, change) ∷ []) ≡ Ok (after m change)
-  made_one room = ap (λ (b : Bool). cond b (Err at) (Ok (after m change))) room
-
-  pub none_made : full m change ≡ true → made m ((at, change) ∷ []) ≡ Err at
-  none_made full = ap (λ (b : Bool). cond b (Err at) (Ok (after m change))) full
 
 -- changes, and then others
 pub made_all : (m : Mailbox) (xs ys : List (ℕ × Change)) → made m (xs ++ ys) ≡ (made m xs >>= λ n. made n ys)

@@ -97,7 +97,7 @@ impl Keeper {
     /// offset there, and `OtherMe` exactly where a whole state of another address is kept.
     ///
     /// - `opens`: what is opened is the state that stands in what the reads give at the start.
-    /// - `kept`, `stored`: after Ok nothing is pending, and the shelf is settled for the store.
+    /// - `kept`, `stored`, `same`: after Ok nothing is pending, and the shelf is settled for the store; the same is found there.
     /// - `any_moment`: a crash at any moment leaves that in which the same is found as in what it might have left at the start.
     /// - `other`: after `OtherMe` each crash outcome has that in which the same is found as in what the reads gave at the start.
     /// - `written`: nothing is written.
@@ -113,6 +113,7 @@ impl Keeper {
         ensures pending { IfOk result (λ k. k.pending ≡ none_pending) }
         ensures kept { IfOk result (λ k. WhereKnown (H.seen shelf.new) (IsKept k)) }
         ensures stored { IfOk result (λ k. WhereKnown (H.seen shelf.new) (IsStored k.store (H.may_leave shelf.new))) }
+        ensures same { OnOk result (KnownThen (H.seen shelf.old) (H.seen shelf.new) SameFound) }
         ensures any_moment { WhereKnown (H.seen shelf.old) (λ _. LeavesOnly H.moment H.left_since shelf.old shelf.new
             (Reached (H.may_leave shelf.old) SameFound)) }
         ensures other { OnOtherMe result (WhereKnown (H.seen shelf.old) (AllFindSame (H.may_leave shelf.new))) }

@@ -1,7 +1,6 @@
 //! From what a store has to the state that stands.
 ghost use Rattle.std.specs.Prelude.{◌≡◌, ◌≢◌, ◌∷◌, [], map, Ok, IfErr, IfOk, IfSome, OnOk};
 ghost use Rattle.std.specs.List.{AllByRecursion};
-ghost use Rattle.mailbox_model.specs.Mailbox.{after};
 ghost use Rattle.state_image.specs.Changes.{FitsChange};
 ghost use Rattle.state_image.specs.Images.{IsPosition};
 ghost use Rattle.tail_journal.specs.Read.{applied_of, FitsApplied};
