@@ -1,0 +1,4 @@
+-- Lemmas.
+pub mod Prefixes
+pub mod Rejoined
+pub mod Brought
