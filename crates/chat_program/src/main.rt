@@ -5,7 +5,8 @@ ghost use Rattle.std.specs.Prelude.{◌≡◌, ◌<◌};
 
 use follow::{Status, run};
 use kit::{Memory, Steps, Text};
-use outside::{FileSink, FileSource, NoShelf, RealClock};
+use outside::{FileSink, FileSource, RealClock};
+use shelves::FileShelf;
 use std::io::ErrorKind;
 use std::marker::Brand;
 use std::process::ExitCode;
@@ -16,6 +17,13 @@ use std::{env, fs};
 const MBOX: &str = "box.mbox";
 
 const STEPS: &str = "box.steps";
+
+/// The files of what is kept: two slots and a tail.
+const SLOT_A: &str = "box.a";
+
+const SLOT_B: &str = "box.b";
+
+const TAIL: &str = "box.tail";
 
 /// The words after the program's name. Where one of them is no text there are none, which is no command.
 fn words<R: Env + AllocGlobal>(rt: &R) -> Result<Vec<Text>, Memory> {
@@ -53,7 +61,7 @@ fn start<R: Files + Env + Clock + Print + AllocGlobal, L: Ledger>(
     let words = words(rt)?;
     let mut mbox = FileSource::open(rt, MBOX)?;
     let mut steps = steps_file(rt)?;
-    let mut shelf = NoShelf::new();
+    let mut shelf = FileShelf::open(rt, SLOT_A, SLOT_B, TAIL)?;
     let mut clock = RealClock::new(rt);
     let mut out = FileSink::stdout(rt)?;
     Ok(run(

@@ -10,8 +10,11 @@ use Rattle.follow.specs.declared.status.Status.{Status}
 use Rattle.follow.specs.declared.status.Status.TheVariants as status
 use Rattle.outside.specs.Bytes.{AppendsPrefix, PutAppends}
 use Rattle.outside.specs.Causes.{HasCause, Rose}
+use Rattle.outside.specs.Moments.{LeavesOnly}
+use Rattle.outside.specs.Places.{Places}
+use Rattle.outside.proofs.Moments.{started}
 use Rattle.outside.specs.declared.faults.Failed.{Failed}
-use Rattle.follow.specs.Outcome.{Agrees, PutsAnswer, PutsLine, PutsWhole, TakesAll, TellsSteps}
+use Rattle.follow.specs.Outcome.{Agrees, Given, LastIf, MayStandIf, PutsAnswer, PutsLine, PutsWhole, TakesAll, TellsSteps}
 use Rattle.follow.specs.Replies.{Puts}
 use Rattle.follow.specs.Statuses.{line_of, status_of}
 
@@ -40,20 +43,28 @@ agrees_refused o old new why s puts (inl is) = subst (Agrees o) (sym is) (by o w
     by (Ok text) refusal.Usage p = absurd cc
     by (Ok text) (refusal.Read input) p = tt
     by (Ok text) (refusal.Steps line) p = absurd cc
+    by (Ok text) refusal.Disk p = tt
     by (Ok text) refusal.Write p = tt
     by (Ok text) refusal.Memory p = tt
     by (Ok text) refusal.Full p = absurd cc
     by (Ok text) refusal.NoChat p = absurd cc
+    by (Ok text) (refusal.Damaged place at) p = absurd cc
+    by (Ok text) (refusal.Short input) p = absurd cc
+    by (Ok text) (refusal.OtherMe other me) p = absurd cc
     by (Ok text) (refusal.Endless input) p = tt
     by (Ok text) refusal.NoApp p = absurd cc
     by (Ok text) refusal.Unbuilt p = absurd cc
     by (Err e) refusal.Usage p = (let same : refusal.Usage ≡ e = cc in ap status_of same)
     by (Err e) (refusal.Read input) p = tt
     by (Err e) (refusal.Steps line) p = (let same : refusal.Steps line ≡ e = cc in ap status_of same)
+    by (Err e) refusal.Disk p = tt
     by (Err e) refusal.Write p = absurd p
     by (Err e) refusal.Memory p = tt
     by (Err e) refusal.Full p = (let same : refusal.Full ≡ e = cc in ap status_of same)
     by (Err e) refusal.NoChat p = (let same : refusal.NoChat ≡ e = cc in ap status_of same)
+    by (Err e) (refusal.Damaged place at) p = (let same : refusal.Damaged place at ≡ e = cc in ap status_of same)
+    by (Err e) (refusal.Short input) p = (let same : refusal.Short input ≡ e = cc in ap status_of same)
+    by (Err e) (refusal.OtherMe other me) p = (let same : refusal.OtherMe other me ≡ e = cc in ap status_of same)
     by (Err e) (refusal.Endless input) p = tt
     by (Err e) refusal.NoApp p = (let same : refusal.NoApp ≡ e = cc in ap status_of same)
     by (Err e) refusal.Unbuilt p = (let same : refusal.Unbuilt ≡ e = cc in ap status_of same)
@@ -79,10 +90,14 @@ puts_refused o old new why s write (inl is) = subst (PutsAnswer old new o) (sym 
     by (Ok text) refusal.Usage w = tt
     by (Ok text) (refusal.Read input) w = tt
     by (Ok text) (refusal.Steps line) w = tt
+    by (Ok text) refusal.Disk w = tt
     by (Ok text) refusal.Write w = absurd (w refl)
     by (Ok text) refusal.Memory w = tt
     by (Ok text) refusal.Full w = tt
     by (Ok text) refusal.NoChat w = tt
+    by (Ok text) (refusal.Damaged place at) w = tt
+    by (Ok text) (refusal.Short input) w = tt
+    by (Ok text) (refusal.OtherMe other me) w = tt
     by (Ok text) (refusal.Endless input) w = tt
     by (Ok text) refusal.NoApp w = tt
     by (Ok text) refusal.Unbuilt w = tt
@@ -90,19 +105,23 @@ puts_refused o old new why s write (inl is) = subst (PutsAnswer old new o) (sym 
 -- ---- where nothing failed, an answer was put whole, or memory ran out
 
 pub answered : (old new : Option Bytes) (o : Result Bytes Refusal) (text : Bytes) (s : Status) → o ≡ Ok text → Agrees o s → PutsAnswer old new o s
-    → ¬ (s ≡ status.Read) → ¬ (s ≡ status.Endless) → ¬ (s ≡ status.Write) → (s ≡ status.Ok × Appends old new text) ⊎ (s ≡ status.Memory)
-answered old new (Err why) text s is agrees puts read endless write = absurd cc
-answered old new (Ok t) text status.Ok is agrees puts read endless write = (let same : t ≡ text = cc in inl (refl, subst (λ put. Appends old new put) same puts))
-answered old new (Ok t) text status.Memory is agrees puts read endless write = inr refl
-answered old new (Ok t) text status.Read is agrees puts read endless write = absurd (read refl)
-answered old new (Ok t) text status.Endless is agrees puts read endless write = absurd (endless refl)
-answered old new (Ok t) text status.Write is agrees puts read endless write = absurd (write refl)
-answered old new (Ok t) text status.Usage is agrees puts read endless write = absurd agrees
-answered old new (Ok t) text status.Steps is agrees puts read endless write = absurd agrees
-answered old new (Ok t) text status.Full is agrees puts read endless write = absurd agrees
-answered old new (Ok t) text status.NoChat is agrees puts read endless write = absurd agrees
-answered old new (Ok t) text status.NoApp is agrees puts read endless write = absurd agrees
-answered old new (Ok t) text status.Unbuilt is agrees puts read endless write = absurd agrees
+    → ¬ (s ≡ status.Read) → ¬ (s ≡ status.Endless) → ¬ (s ≡ status.Disk) → ¬ (s ≡ status.Write) → (s ≡ status.Ok × Appends old new text) ⊎ (s ≡ status.Memory)
+answered old new (Err why) text s is agrees puts read endless disk write = absurd cc
+answered old new (Ok t) text status.Ok is agrees puts read endless disk write = (let same : t ≡ text = cc in inl (refl, subst (λ put. Appends old new put) same puts))
+answered old new (Ok t) text status.Memory is agrees puts read endless disk write = inr refl
+answered old new (Ok t) text status.Read is agrees puts read endless disk write = absurd (read refl)
+answered old new (Ok t) text status.Endless is agrees puts read endless disk write = absurd (endless refl)
+answered old new (Ok t) text status.Write is agrees puts read endless disk write = absurd (write refl)
+answered old new (Ok t) text status.Disk is agrees puts read endless disk write = absurd (disk refl)
+answered old new (Ok t) text status.Usage is agrees puts read endless disk write = absurd agrees
+answered old new (Ok t) text status.Steps is agrees puts read endless disk write = absurd agrees
+answered old new (Ok t) text status.Full is agrees puts read endless disk write = absurd agrees
+answered old new (Ok t) text status.NoChat is agrees puts read endless disk write = absurd agrees
+answered old new (Ok t) text status.NoApp is agrees puts read endless disk write = absurd agrees
+answered old new (Ok t) text status.Damaged is agrees puts read endless disk write = absurd agrees
+answered old new (Ok t) text status.Short is agrees puts read endless disk write = absurd agrees
+answered old new (Ok t) text status.OtherMe is agrees puts read endless disk write = absurd agrees
+answered old new (Ok t) text status.Unbuilt is agrees puts read endless disk write = absurd agrees
 
 -- the line of a read fault has its cause
 pub not_read : (old new : Option Bytes) (cause : Refusal → Type 0) (rose : Type 0) (s : Status) → PutsLine old new cause rose s
@@ -117,10 +136,14 @@ not_read old new cause rose s line mbox steps is = by (subst (PutsLine old new c
         none (refusal.Read Steps) e c = steps c
         none refusal.Usage e c = absurd cc
         none (refusal.Steps line) e c = absurd cc
+        none refusal.Disk e c = absurd cc
         none refusal.Write e c = absurd cc
         none refusal.Memory e c = absurd cc
         none refusal.Full e c = absurd cc
         none refusal.NoChat e c = absurd cc
+        none (refusal.Damaged place at) e c = absurd cc
+        none (refusal.Short input) e c = absurd cc
+        none (refusal.OtherMe other me) e c = absurd cc
         none (refusal.Endless input) e c = absurd cc
         none refusal.NoApp e c = absurd cc
         none refusal.Unbuilt e c = absurd cc
@@ -138,10 +161,36 @@ not_endless old new cause rose s line mbox steps is = by (subst (PutsLine old ne
         none refusal.Usage e c = absurd cc
         none (refusal.Read input) e c = absurd cc
         none (refusal.Steps line) e c = absurd cc
+        none refusal.Disk e c = absurd cc
         none refusal.Write e c = absurd cc
         none refusal.Memory e c = absurd cc
         none refusal.Full e c = absurd cc
         none refusal.NoChat e c = absurd cc
+        none (refusal.Damaged place at) e c = absurd cc
+        none (refusal.Short input) e c = absurd cc
+        none (refusal.OtherMe other me) e c = absurd cc
+        none refusal.NoApp e c = absurd cc
+        none refusal.Unbuilt e c = absurd cc
+
+pub not_disk : (old new : Option Bytes) (cause : Refusal → Type 0) (rose : Type 0) (s : Status) → PutsLine old new cause rose s → ¬ cause refusal.Disk → ¬ (s ≡ status.Disk)
+not_disk old new cause rose s line shelf is = by (subst (PutsLine old new cause rose) is line)
+  where
+    by : PutsLine old new cause rose status.Disk → ⊥
+    by l = none l.0 l.1 l.2
+      where
+        none : (why : Refusal) → status.Disk ≡ status_of why → cause why → ⊥
+        none refusal.Disk e c = shelf c
+        none refusal.Usage e c = absurd cc
+        none (refusal.Read input) e c = absurd cc
+        none (refusal.Steps line) e c = absurd cc
+        none refusal.Write e c = absurd cc
+        none refusal.Memory e c = absurd cc
+        none refusal.Full e c = absurd cc
+        none refusal.NoChat e c = absurd cc
+        none (refusal.Damaged place at) e c = absurd cc
+        none (refusal.Short input) e c = absurd cc
+        none (refusal.OtherMe other me) e c = absurd cc
+        none (refusal.Endless input) e c = absurd cc
         none refusal.NoApp e c = absurd cc
         none refusal.Unbuilt e c = absurd cc
 
@@ -175,10 +224,14 @@ refused_line old new cause rose why s of_why of_memory line =
     by refusal.Usage c p = (refusal.Usage, refl, c, p)
     by (refusal.Read input) c p = (refusal.Read input, refl, c, p)
     by (refusal.Steps number) c p = (refusal.Steps number, refl, c, p)
+    by refusal.Disk c p = (refusal.Disk, refl, c, p)
     by refusal.Write c p = tt
     by refusal.Memory c p = (refusal.Memory, refl, c, p)
     by refusal.Full c p = (refusal.Full, refl, c, p)
     by refusal.NoChat c p = (refusal.NoChat, refl, c, p)
+    by (refusal.Damaged place at) c p = (refusal.Damaged place at, refl, c, p)
+    by (refusal.Short input) c p = (refusal.Short input, refl, c, p)
+    by (refusal.OtherMe other me) c p = (refusal.OtherMe other me, refl, c, p)
     by (refusal.Endless input) c p = (refusal.Endless input, refl, c, p)
     by refusal.NoApp c p = (refusal.NoApp, refl, c, p)
     by refusal.Unbuilt c p = (refusal.Unbuilt, refl, c, p)
@@ -199,6 +252,37 @@ not_all_steps before after (Some lines) budget told fewer t = not_all before aft
 
 -- ---- what a run leaves as it was
 
-pub second : (o : Option Refusal) (P Q : Type 0) → IfSome o (λ why. P × Q) → IfSome o (λ why. Q)
-second None P Q both = tt
-second (Some why) P Q both = both.1
+pub second : (o : Option Refusal) (P Q R : Type 0) → IfSome o (λ why. P × Q × R) → IfSome o (λ why. Q)
+second None P Q R all = tt
+second (Some why) P Q R all = all.1
+
+pub third : (o : Option Refusal) (P Q R : Type 0) → IfSome o (λ why. P × Q × R) → IfSome o (λ why. R)
+third None P Q R all = tt
+third (Some why) P Q R all = all.2
+
+-- ---- what is kept
+
+pub last_of_memory : (o : Option Given) (outcomes : Places → Type 0) → LastIf o status.Memory outcomes
+last_of_memory None outcomes = tt
+last_of_memory (Some g) outcomes = tt
+
+pub last_of_usage : (o : Option Given) (outcomes : Places → Type 0) → LastIf o status.Usage outcomes
+last_of_usage None outcomes = tt
+last_of_usage (Some g) outcomes = tt
+
+pub last_of_unbuilt : (o : Option Given) (outcomes : Places → Type 0) → LastIf o status.Unbuilt outcomes
+last_of_unbuilt None outcomes = tt
+last_of_unbuilt (Some g) outcomes = tt
+
+pub last_said : (o : Option Given) (outcomes : Places → Type 0) (why : Refusal) (s : Status) → Said why s → LastIf o (status_of why) outcomes → LastIf o s outcomes
+last_said o outcomes why s (inl is) last = subst (λ (s : Status). LastIf o s outcomes) (sym is) last
+last_said o outcomes why s (inr is) last = subst (λ (s : Status). LastIf o s outcomes) (sym is) (last_of_memory o outcomes)
+
+-- a shelf that was not called
+pub untouched_leaves : {D : Type 0} (moment : D → ℕ) (left_since : D → ℕ → Places → Type 0) (shelf : D) (outcomes : Places → Type 0) → ((c : Places) → left_since shelf (moment shelf) c → outcomes c) → (o : Option Given)
+    → LeavesOnly moment left_since shelf shelf (MayStandIf o outcomes)
+untouched_leaves moment left_since shelf outcomes only_now o = started moment left_since shelf (MayStandIf o outcomes) (λ c left. by o c (only_now c left))
+  where
+    by : (o : Option Given) (c : Places) → outcomes c → MayStandIf o outcomes c
+    by None c left = left
+    by (Some g) c left = inl (c, left, refl)

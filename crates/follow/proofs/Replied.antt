@@ -1,19 +1,28 @@
--- What was put, by what became of the files and of the question.
-use Rattle.std.proofs.Common.{Option, Result, Ok, Err, refl, ap}
+-- What was put and kept, by what became of the files and of the question.
+use Rattle.std.proofs.Common.{◌≡◌, ◌≢◌, ◌≤◌, ℕ, ◌^◌, [], ◌++◌, Option, Result, Ok, Err, arith, refl, sym, ap, subst}
 use Rattle.std.specs.Result.{result_map_both}
+use Rattle.outside.specs.Causes.{Rose}
+use Rattle.outside.specs.Places.{Places}
 use Rattle.answers.specs.Answers as asked
 use Rattle.answers.specs.declared.fault.AnswerFault.{AnswerFault}
 use Rattle.answers.specs.declared.fault.AnswerFault.TheVariants as answer
 use Rattle.answers.specs.declared.question.Question.{Question}
+use Rattle.source_buffer.specs.Buffered.{Buffered, BufferTakes}
+use Rattle.source_buffer.proofs.Taking.{BufferTakes_more}
+use Rattle.mboxrd.specs.Reading as mbox
+use Rattle.steps_file.specs.Reading as steps
+use Rattle.follower.specs.declared.fault.Input.TheVariants.{Mbox, Steps}
 use Rattle.follower.specs.declared.fault.RunFault.{RunFault}
 use Rattle.follower.specs.declared.fault.RunFault.TheVariants as fault
-use Rattle.follower.specs.Reached.{Reached}
+use Rattle.follower.specs.Following.{Following, IsCause, IsKeepFault}
+use Rattle.follower.specs.Reached.{Reached, Stop}
+use Rattle.follower.proofs.Going.{rose_since}
 use Rattle.mailbox_model.specs.Lists.{Bytes}
 use Rattle.follow.specs.declared.status.Refusal.{Refusal}
 use Rattle.follow.specs.declared.status.Refusal.TheVariants as refusal
-use Rattle.follow.specs.Outcome.{CauseOf, replied}
-use Rattle.follow.specs.Replies.{Puts, Stops}
-use Rattle.follow.specs.Statuses.{answer_refusal, refusal_of}
+use Rattle.follow.specs.Outcome.{CauseOf, Given, KeepsAll, OnLast, TakesAll, TakesUpTo, answer_at, followed, mbox_budget, replied, steps_budget}
+use Rattle.follow.specs.Replies.{FollowStops, Puts, Took, untaken}
+use Rattle.follow.specs.Statuses.{answer_refusal, refusal_of, status_of}
 
 -- the answer, and why there is none, as a run says it
 abbrev pub refused : Result Bytes AnswerFault → Result Bytes Refusal
@@ -35,31 +44,184 @@ puts_refusal (Err why) old new answer.Memory p = tt
 puts_refusal (Err why) old new answer.NoChat p = ap refused p
 puts_refusal (Err why) old new answer.NoApp p = ap refused p
 
--- ---- files that come to no end
+-- ---- files that are not followed to their end
 
 pub free_of_memory : (o : Result Bytes Refusal) (old new : Option Bytes) → Puts o old new (Err refusal.Memory)
 free_of_memory (Ok text) old new = tt
 free_of_memory (Err why) old new = tt
 
-pub stops_put : (q : Question) (r : Reached) (old new : Option Bytes) (why : RunFault) → Stops why r → Puts (replied q r) old new (Err (refusal_of why))
-stops_put q r old new fault.Full stop = rw stop refl
-stops_put q r old new (fault.Steps number) stop = rw stop refl
-stops_put q r old new (fault.Read input) stop = by (replied q r)
+pub stops_put : (q : Question) (g : Given) (outcomes : Places → Type 0) (old new : Option Bytes) (why : RunFault) → FollowStops why g outcomes → Puts (replied q (followed g)) old new (Err (refusal_of g.me why))
+stops_put q g outcomes old new (fault.Read input) stops = by (replied q (followed g))
   where
     by : (o : Result Bytes Refusal) → Puts o old new (Err (refusal.Read input))
     by (Ok text) = tt
     by (Err why) = tt
-stops_put q r old new (fault.Endless input) stop = by (replied q r)
+stops_put q g outcomes old new (fault.Endless input) stops = by (replied q (followed g))
   where
     by : (o : Result Bytes Refusal) → Puts o old new (Err (refusal.Endless input))
     by (Ok text) = tt
     by (Err why) = tt
-stops_put q r old new fault.Memory stop = free_of_memory (replied q r) old new
+stops_put q g outcomes old new fault.Disk stops = by (replied q (followed g))
+  where
+    by : (o : Result Bytes Refusal) → Puts o old new (Err refusal.Disk)
+    by (Ok text) = tt
+    by (Err why) = tt
+stops_put q g outcomes old new (fault.Short input) stops =
+    subst (λ (r : Result Reached Refusal). Puts (replied q r) old new (Err (refusal.Short input))) (sym stops.0) refl
+stops_put q g outcomes old new (fault.Steps number) stops =
+    subst (λ (r : Result Reached Refusal). Puts (replied q r) old new (Err (refusal.Steps number))) (sym stops.1)
+    (subst (λ (o : Option Stop). Puts (answer_at q o stops.0.state) old new (Err (refusal.Steps number))) (sym stops.2) refl)
+stops_put q g outcomes old new fault.Full stops =
+    subst (λ (r : Result Reached Refusal). Puts (replied q r) old new (Err refusal.Full)) (sym stops.1)
+    (subst (λ (o : Option Stop). Puts (answer_at q o stops.0.state) old new (Err refusal.Full)) (sym stops.2) refl)
+stops_put q g outcomes old new (fault.Damaged place at) stops =
+    subst (λ (r : Result Reached Refusal). Puts (replied q r) old new (Err (refusal.Damaged place at))) (sym stops) refl
+stops_put q g outcomes old new (fault.OtherMe other) stops =
+    subst (λ (r : Result Reached Refusal). Puts (replied q r) old new (Err (refusal.OtherMe other g.me))) (sym stops.0) refl
+stops_put q g outcomes old new fault.Memory stops = free_of_memory (replied q (followed g)) old new
+
+-- what is kept then
+pub stops_last : (g : Given) (outcomes : Places → Type 0) (why : RunFault) → FollowStops why g outcomes → OnLast (status_of (refusal_of g.me why)) (KeepsAll g outcomes)
+stops_last g outcomes (fault.Read input) stops = tt
+stops_last g outcomes (fault.Endless input) stops = tt
+stops_last g outcomes (fault.Short input) stops = stops.1
+stops_last g outcomes (fault.Steps number) stops = stops.3
+stops_last g outcomes fault.Full stops = stops.3
+stops_last g outcomes fault.Disk stops = tt
+stops_last g outcomes (fault.Damaged place at) stops = tt
+stops_last g outcomes (fault.OtherMe other) stops = stops.1
+stops_last g outcomes fault.Memory stops = tt
+
+-- and of a run that was followed to its end, whatever the answer
+pub answer_last : (g : Given) (outcomes : Places → Type 0) (why : AnswerFault) → KeepsAll g outcomes → OnLast (status_of (answer_refusal why)) (KeepsAll g outcomes)
+answer_last g outcomes answer.NoChat keeps = keeps
+answer_last g outcomes answer.NoApp keeps = keeps
+answer_last g outcomes answer.Write keeps = keeps
+answer_last g outcomes answer.Memory keeps = tt
 
 -- ---- an answer has no cause but its own
 
-pub no_cause : (P Q T U : Type 0) (e : AnswerFault) → CauseOf P Q T U (answer_refusal e)
-no_cause P Q T U answer.NoChat = tt
-no_cause P Q T U answer.NoApp = tt
-no_cause P Q T U answer.Write = tt
-no_cause P Q T U answer.Memory = tt
+pub no_cause : (P Q R T U : Type 0) (e : AnswerFault) → CauseOf P Q R T U (answer_refusal e)
+no_cause P Q R T U answer.NoChat = tt
+no_cause P Q R T U answer.NoApp = tt
+no_cause P Q R T U answer.Write = tt
+no_cause P Q R T U answer.Memory = tt
+
+-- ---- the causes of what is not followed
+
+pub took_within : (l m : Option Bytes) (b : Buffered) (budget : ℕ) → Took l m budget b → TakesUpTo l m budget
+took_within l m b budget t = (t.0, omega (arith, t.1.taken, t.1.budget, t.1.within (omega arith)), t.1.left)
+
+pub took_all : (l m : Option Bytes) (b : Buffered) (budget : ℕ) → b.taken ≡ b.budget → Took l m budget b → TakesAll l m budget
+took_all l m b budget all t = (t.0, omega (arith, all, t.1.taken, t.1.budget), t.1.left)
+
+pub took_more : (l m n : Option Bytes) (a b : Buffered) (budget : ℕ) → Took l m budget a → (bytes : Bytes) × BufferTakes m n a b bytes → Took l n budget b
+took_more l m n a b budget t u = (t.0 ++ u.0, BufferTakes_more l m n (untaken budget) a b t.0 u.0 t.1 u.1)
+
+-- a reader that has taken nothing yet
+pub took_first : (l m : Option Bytes) (a b : Buffered) (budget : ℕ) → a.held ≡ [] → a.taken ≡ 0 → a.budget ≡ budget → (bytes : Bytes) × BufferTakes l m a b bytes → Took l m budget b
+took_first l m a b budget held taken is t =
+    (t.0, subst (λ (x : Buffered). BufferTakes l m x b t.0) (λ i. record { held = held i; taken = taken i; budget = is i }) t.1)
+
+pub caused : (P Q R T U : Type 0) (new : Following) (me : Bytes) (why : RunFault) → IsCause P Q R new why → (new.mbox.taken ≡ new.mbox.budget → T) → (new.lines.taken ≡ new.lines.budget → U)
+    → CauseOf P Q R T U (refusal_of me why)
+caused P Q R T U new me (fault.Read Mbox) is t u = is
+caused P Q R T U new me (fault.Read Steps) is t u = is
+caused P Q R T U new me (fault.Endless Mbox) is t u = t is
+caused P Q R T U new me (fault.Endless Steps) is t u = u is
+caused P Q R T U new me fault.Disk is t u = is
+caused P Q R T U new me (fault.Short input) is t u = tt
+caused P Q R T U new me (fault.Steps number) is t u = tt
+caused P Q R T U new me (fault.Damaged place at) is t u = tt
+caused P Q R T U new me (fault.OtherMe other) is t u = tt
+caused P Q R T U new me fault.Full is t u = tt
+caused P Q R T U new me fault.Memory is t u = tt
+
+-- the same of weaker causes
+pub cause_on : (P P' Q Q' R R' T T' U U' : Type 0) (why : Refusal) → (P → P') → (Q → Q') → (R → R') → (T → T') → (U → U') → CauseOf P Q R T U why → CauseOf P' Q' R' T' U' why
+cause_on P P' Q Q' R R' T T' U U' (refusal.Read Mbox) p q r t u c = p c
+cause_on P P' Q Q' R R' T T' U U' (refusal.Read Steps) p q r t u c = q c
+cause_on P P' Q Q' R R' T T' U U' refusal.Disk p q r t u c = r c
+cause_on P P' Q Q' R R' T T' U U' (refusal.Endless Mbox) p q r t u c = t c
+cause_on P P' Q Q' R R' T T' U U' (refusal.Endless Steps) p q r t u c = u c
+cause_on P P' Q Q' R R' T T' U U' refusal.Usage p q r t u c = tt
+cause_on P P' Q Q' R R' T T' U U' (refusal.Steps number) p q r t u c = tt
+cause_on P P' Q Q' R R' T T' U U' refusal.Write p q r t u c = tt
+cause_on P P' Q Q' R R' T T' U U' refusal.Memory p q r t u c = tt
+cause_on P P' Q Q' R R' T T' U U' refusal.Full p q r t u c = tt
+cause_on P P' Q Q' R R' T T' U U' refusal.NoChat p q r t u c = tt
+cause_on P P' Q Q' R R' T T' U U' (refusal.Damaged place at) p q r t u c = tt
+cause_on P P' Q Q' R R' T T' U U' (refusal.Short input) p q r t u c = tt
+cause_on P P' Q Q' R R' T T' U U' (refusal.OtherMe other me) p q r t u c = tt
+cause_on P P' Q Q' R R' T T' U U' refusal.NoApp p q r t u c = tt
+cause_on P P' Q Q' R R' T T' U U' refusal.Unbuilt p q r t u c = tt
+
+-- why nothing was opened
+pub open_cause : (P Q R T U : Type 0) (me : Bytes) (why : RunFault) → IsKeepFault why → (why ≡ fault.Disk → R) → CauseOf P Q R T U (refusal_of me why)
+open_cause P Q R T U me fault.Disk kind disk = disk refl
+open_cause P Q R T U me (fault.Damaged place at) kind disk = tt
+open_cause P Q R T U me (fault.OtherMe other) kind disk = tt
+open_cause P Q R T U me fault.Full kind disk = tt
+open_cause P Q R T U me fault.Memory kind disk = tt
+open_cause P Q R T U me (fault.Read input) kind disk = absurd kind
+open_cause P Q R T U me (fault.Endless input) kind disk = absurd kind
+open_cause P Q R T U me (fault.Short input) kind disk = absurd kind
+open_cause P Q R T U me (fault.Steps number) kind disk = absurd kind
+
+-- a reader that has taken nothing is not at the end of its budget
+pub some_left : (r before : steps.Reading) → r ≡ before → before.taken ≡ 0 → before.budget ≡ 2 ^ 32 → ¬ (r.taken ≡ r.budget)
+some_left r before same none is all =
+    absurd (omega (arith, all, ap (λ (x : steps.Reading). x.taken) same, ap (λ (x : steps.Reading). x.budget) same, none, is))
+
+-- the same since earlier calls
+pub cause_later : (mbox_first mbox_mid mbox_last : ℕ) (Q : Type 0) (shelf_first shelf_mid shelf_last : ℕ) (T U : Type 0) (why : Refusal) → mbox_first ≤ mbox_mid → shelf_first ≤ shelf_mid
+    → CauseOf (Rose mbox_mid mbox_last) Q (Rose shelf_mid shelf_last) T U why → CauseOf (Rose mbox_first mbox_last) Q (Rose shelf_first shelf_last) T U why
+cause_later mbox_first mbox_mid mbox_last Q shelf_first shelf_mid shelf_last T U why mbox shelf =
+    cause_on _ _ Q Q _ _ T T U U why (rose_since mbox_first mbox_mid mbox_last mbox) (λ x. x) (rose_since shelf_first shelf_mid shelf_last shelf) (λ x. x) (λ x. x)
+
+pub cause_since_all : (mbox_first mbox_mid mbox_last steps_first steps_mid steps_last shelf_first shelf_mid shelf_last : ℕ) (T U : Type 0) (why : Refusal) → mbox_first ≤ mbox_mid → steps_first ≤ steps_mid → shelf_first ≤ shelf_mid
+    → CauseOf (Rose mbox_mid mbox_last) (Rose steps_mid steps_last) (Rose shelf_mid shelf_last) T U why → CauseOf (Rose mbox_first mbox_last) (Rose steps_first steps_last) (Rose shelf_first shelf_last) T U why
+cause_since_all mbox_first mbox_mid mbox_last steps_first steps_mid steps_last shelf_first shelf_mid shelf_last T U why mbox steps shelf =
+    cause_on _ _ _ _ _ _ T T U U why (rose_since mbox_first mbox_mid mbox_last mbox) (rose_since steps_first steps_mid steps_last steps) (rose_since shelf_first shelf_mid shelf_last shelf) (λ x. x) (λ x. x)
+
+-- of a follower that was opened, started and followed
+pub mbox_took_on : (l m n : Option Bytes) (f started new : Following) → Took l m mbox_budget (mbox.buffered f.mbox) → started.mbox ≡ f.mbox → (bytes : Bytes) × mbox.Takes m n started.mbox new.mbox bytes
+    → Took l n mbox_budget (mbox.buffered new.mbox)
+mbox_took_on l m n f started new took same more =
+    took_more l m n (mbox.buffered f.mbox) (mbox.buffered new.mbox) mbox_budget took (subst (λ (r : mbox.Reading). (bytes : Bytes) × mbox.Takes m n r new.mbox bytes) same more)
+
+pub steps_took_on : (l m n : Option Bytes) (f started new : Following) → (f.lines.held ≡ []) × (f.lines.taken ≡ 0) × (f.lines.budget ≡ 2 ^ 32) → (bytes : Bytes) × steps.Takes l m f.lines started.lines bytes
+    → (bytes : Bytes) × steps.Takes m n started.lines new.lines bytes → Took l n steps_budget (steps.buffered new.lines)
+steps_took_on l m n f started new fresh took more =
+    took_more l m n (steps.buffered started.lines) (steps.buffered new.lines) steps_budget
+    (took_first l m (steps.buffered f.lines) (steps.buffered started.lines) steps_budget fresh.0 fresh.1 fresh.2 took) more
+
+-- ---- what the files can't be the cause of
+
+pub not_words : (me : Bytes) (why : RunFault) → (refusal_of me why ≢ refusal.Usage) × (refusal_of me why ≢ refusal.Unbuilt)
+not_words me (fault.Read input) = (λ is. cc, λ is. cc)
+not_words me (fault.Endless input) = (λ is. cc, λ is. cc)
+not_words me (fault.Short input) = (λ is. cc, λ is. cc)
+not_words me (fault.Steps number) = (λ is. cc, λ is. cc)
+not_words me fault.Full = (λ is. cc, λ is. cc)
+not_words me fault.Disk = (λ is. cc, λ is. cc)
+not_words me (fault.Damaged place at) = (λ is. cc, λ is. cc)
+not_words me (fault.OtherMe other) = (λ is. cc, λ is. cc)
+not_words me fault.Memory = (λ is. cc, λ is. cc)
+
+pub not_write : (me : Bytes) (why : RunFault) → refusal_of me why ≢ refusal.Write
+not_write me (fault.Read input) is = cc
+not_write me (fault.Endless input) is = cc
+not_write me (fault.Short input) is = cc
+not_write me (fault.Steps number) is = cc
+not_write me fault.Full is = cc
+not_write me fault.Disk is = cc
+not_write me (fault.Damaged place at) is = cc
+not_write me (fault.OtherMe other) is = cc
+not_write me fault.Memory is = cc
+
+pub not_asked : (why : AnswerFault) → (answer_refusal why ≢ refusal.Usage) × (answer_refusal why ≢ refusal.Unbuilt)
+not_asked answer.NoChat = (λ is. cc, λ is. cc)
+not_asked answer.NoApp = (λ is. cc, λ is. cc)
+not_asked answer.Write = (λ is. cc, λ is. cc)
+not_asked answer.Memory = (λ is. cc, λ is. cc)

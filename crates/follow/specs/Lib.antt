@@ -4,6 +4,7 @@ pub mod Grammar
 pub mod Questions
 pub mod Statuses
 pub mod Outcome
+pub mod Rest
 -- What only proofs and private functions use.
 pub mod Views
 pub mod Replies

@@ -1,6 +1,9 @@
 -- The status, its code and its fault line.
-use Rattle.std.specs.Prelude.{ℕ, List, [], ◌++◌, codes}
+use Rattle.std.specs.Prelude.{ℕ, Bool, true, false, List, [], ◌++◌, codes, Result, Ok, Err}
 use Rattle.std.specs.Fmt.{decimal}
+use Rattle.outside.specs.declared.shelf.Place.{Place}
+use Rattle.outside.specs.declared.shelf.Place.TheVariants.{A, B, T}
+use Rattle.mailbox_model.specs.Lists.{Bytes}
 use Rattle.answers.specs.declared.fault.AnswerFault.{AnswerFault}
 use Rattle.answers.specs.declared.fault.AnswerFault.TheVariants as answer
 use Rattle.follower.specs.declared.fault.Input.TheVariants.{Mbox, Steps}
@@ -16,10 +19,14 @@ code_of status.Ok = 0
 code_of status.Usage = 1
 code_of status.Read = 2
 code_of status.Steps = 3
+code_of status.Disk = 4
 code_of status.Write = 5
 code_of status.Memory = 6
 code_of status.Full = 7
 code_of status.NoChat = 8
+code_of status.Damaged = 9
+code_of status.Short = 10
+code_of status.OtherMe = 11
 code_of status.Endless = 12
 code_of status.NoApp = 14
 code_of status.Unbuilt = 15
@@ -28,21 +35,42 @@ abbrev pub status_of : Refusal → Status
 status_of refusal.Usage = status.Usage
 status_of (refusal.Read input) = status.Read
 status_of (refusal.Steps line) = status.Steps
+status_of refusal.Disk = status.Disk
 status_of refusal.Write = status.Write
 status_of refusal.Memory = status.Memory
 status_of refusal.Full = status.Full
 status_of refusal.NoChat = status.NoChat
+status_of (refusal.Damaged place at) = status.Damaged
+status_of (refusal.Short input) = status.Short
+status_of (refusal.OtherMe kept me) = status.OtherMe
 status_of (refusal.Endless input) = status.Endless
 status_of refusal.NoApp = status.NoApp
 status_of refusal.Unbuilt = status.Unbuilt
 
--- a run is refused where its files can't be followed
-abbrev pub refusal_of : RunFault → Refusal
-refusal_of (fault.Read input) = refusal.Read input
-refusal_of (fault.Endless input) = refusal.Endless input
-refusal_of (fault.Steps line) = refusal.Steps line
-refusal_of fault.Full = refusal.Full
-refusal_of fault.Memory = refusal.Memory
+-- a run for this address is refused where its files can't be followed
+abbrev pub refusal_of : Bytes → RunFault → Refusal
+refusal_of me (fault.Read input) = refusal.Read input
+refusal_of me (fault.Endless input) = refusal.Endless input
+refusal_of me (fault.Short input) = refusal.Short input
+refusal_of me (fault.Steps line) = refusal.Steps line
+refusal_of me fault.Full = refusal.Full
+refusal_of me fault.Disk = refusal.Disk
+refusal_of me (fault.Damaged place at) = refusal.Damaged place at
+refusal_of me (fault.OtherMe other) = refusal.OtherMe other me
+refusal_of me fault.Memory = refusal.Memory
+
+-- the name of a place
+abbrev pub place_name : Place → List ℕ
+place_name A = codes "a"
+place_name B = codes "b"
+place_name T = codes "tail"
+
+-- whether the line of a refusal names neither a number nor an address
+abbrev pub is_fixed : Refusal → Bool
+is_fixed (refusal.Steps line) = false
+is_fixed (refusal.Damaged place at) = false
+is_fixed (refusal.OtherMe kept me) = false
+is_fixed _ = true
 
 -- The line that says why there is no answer. Where the answer could not be written, neither is a line.
 abbrev pub line_of : Refusal → List ℕ
@@ -50,10 +78,15 @@ line_of refusal.Usage = codes "chats: usage: --me ADDR [--at N] list | chat KEY 
 line_of (refusal.Read Mbox) = codes "chats: read fault: mbox\n"
 line_of (refusal.Read Steps) = codes "chats: read fault: steps\n"
 line_of (refusal.Steps line) = codes "chats: steps line " ++ decimal line ++ codes "\n"
+line_of refusal.Disk = codes "chats: disk fault\n"
 line_of refusal.Write = []
 line_of refusal.Memory = codes "chats: out of memory\n"
 line_of refusal.Full = codes "chats: mailbox full\n"
 line_of refusal.NoChat = codes "chats: no such chat\n"
+line_of (refusal.Damaged place at) = codes "chats: damaged " ++ place_name place ++ codes " at " ++ decimal at ++ codes "\n"
+line_of (refusal.Short Mbox) = codes "chats: short mbox\n"
+line_of (refusal.Short Steps) = codes "chats: short steps\n"
+line_of (refusal.OtherMe kept me) = codes "chats: other address " ++ kept ++ codes ", not " ++ me ++ codes "\n"
 line_of (refusal.Endless Mbox) = codes "chats: endless mbox\n"
 line_of (refusal.Endless Steps) = codes "chats: endless steps\n"
 line_of refusal.NoApp = codes "chats: no such app\n"
@@ -64,3 +97,8 @@ answer_refusal answer.NoChat = refusal.NoChat
 answer_refusal answer.NoApp = refusal.NoApp
 answer_refusal answer.Write = refusal.Write
 answer_refusal answer.Memory = refusal.Memory
+
+-- how a run ends whose reply this is
+abbrev pub status_in : Result Unit Refusal → Status
+status_in (Ok _) = status.Ok
+status_in (Err why) = status_of why

@@ -1,10 +1,13 @@
 //! The run of the program: it follows a mailbox by its files, and prints what is asked of it.
 #![tactic(auto)]
 
+mod following;
+mod laws;
 mod status;
 mod top;
 mod words;
 
 pub use follower::{Input, RunFault};
+pub use laws::following_the_rest;
 pub use status::{Refusal, Status};
 pub use top::run;

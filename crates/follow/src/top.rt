@@ -1,143 +1,30 @@
 //! The whole run.
-ghost use Rattle.std.specs.Prelude.{◌≡◌, ◌≢◌, ◌≤◌, ◌<◌, ◌⊎◌, List, ℕ, Option, Ok, None, Some, true, false, IfErr, IfOk, IfSome, IsErrOf, OnOk, is_none, is_some, length, not, ◌&&◌, unwrap_or};
-ghost use Rattle.std.specs.Io.KnownBytes.{Appends, Consumes};
+ghost use Rattle.std.specs.Prelude.{◌≡◌, ◌≢◌, ◌≤◌, ◌<◌, ◌⊎◌, Option, Ok, None, Some, ℕ, IfErr, IfSome, IsErrOf, is_none, is_some, length, not, ◌&&◌};
+ghost use Rattle.std.specs.Io.KnownBytes.{Appends};
 ghost use Rattle.outside.specs.Causes.{Rose};
 ghost use Rattle.outside.specs.Lent.{IfLent};
+ghost use Rattle.outside.specs.Moments.{LeavesOnly};
+ghost use Rattle.outside.specs.Places.{Places};
 ghost use Rattle.kit.specs.Moments.{last_moment};
 ghost use Rattle.mailbox_model.specs.Lists.{Bytes};
-ghost use Rattle.follower.specs.Feed.{feed, first_state};
-ghost use Rattle.follower.specs.Following.{IsUsable};
-ghost use Rattle.follow.specs.Replies.{FollowGoes, LastGoes, Puts};
+ghost use Rattle.follow.specs.Replies.{Puts};
 ghost use Rattle.follow.specs.Grammar.{IsNoRequest};
-ghost use Rattle.follow.specs.Outcome.{Agrees, PutsWhole, AsksClock, CauseOf, ClockGives, ComesWhere, IfLentAnd, LentTells, PutsAnswer, PutsLine, TakesAll, TakesUpTo, TellsSteps, early, given_of, moment_of_run, mbox_budget, needs_clock, outcome, result as result_of, steps_budget};
-ghost use Rattle.follower.specs.Reached.{reached};
-ghost use Rattle.follow.specs.Statuses.{line_of, refusal_of, status_of};
+ghost use Rattle.follow.specs.Outcome.{Agrees, AsksClock, CauseOf, ClockGives, ComesWhere, IfLentAnd, KeepsAll, LastIf, LentTells, MayStand, MayStandIf, OnLast, PutsAnswer, PutsLine, PutsWhole, TakesAll, TakesUpTo, TellsSteps, early, given_in, given_of, mbox_budget, needs_clock, outcome, result as result_of, steps_budget};
+ghost use Rattle.follow.specs.Statuses.{line_of, status_in, status_of};
 ghost use Rattle.follow.specs.Words.{request};
-ghost use Rattle.follower.specs.declared.fault.RunFault.TheVariants as fault;
 ghost use Rattle.follow.specs.declared.status.Refusal.TheVariants as refusal;
 
+use crate::following::follow_files;
 use crate::status::{Refusal, Status};
 use crate::words::Request;
 use answers::{Question, print_answer};
-use follower::{Follower, RunFault, follow_lines, follow_mails};
 use kit::{Addr, Memory, Steps, Text};
 use outside::{Clock, NoSource, Shelf, Sink, Source};
 use std::alloc::Global;
 use std::sync::ledger::Ledger;
 
-/// The moment of a run without a steps file, for which the clock is asked where the words give none.
-fn moment_or_now<C: Clock>(at: Option<u64>, clock: &mut C) -> u64
-    requires { IfSome at (λ moment. moment ≤ last_moment) }
-    ensures bound { result ≤ last_moment }
-    ensures value { (next : ℕ) → ClockGives (is_none at) (C.next clock.old) next → result ≡ unwrap_or at next }
-    ensures clock { AsksClock C.asked (is_none at) clock.old clock.new ⊥ }
-{
-    match at {
-        Some(moment) => moment,
-        None => clock.now(),
-    }
-}
-
-/// Follows the mbox alone: a moment comes, and then all mails arrive.
-fn follow_mbox<M: Source, C: Clock, L: Ledger>(
-    alloc: Global,
-    me: Addr,
-    at: Option<u64>,
-    mbox: &mut M,
-    clock: &mut C,
-    steps: &mut Steps<L>,
-) -> Result<Follower, RunFault>
-    requires { IfSome at (λ moment. moment ≤ last_moment) }
-    ensures goes { (bytes : Bytes) (next : ℕ) → M.left mbox.old ≡ Some bytes → ClockGives (is_none at) (C.next clock.old) next
-        → FollowGoes result (reached (first_state me) (feed (first_state me) bytes None (Some (unwrap_or at next)))) }
-    ensures current { IfOk result (λ f. f.stale ≡ false) }
-    ensures later { M.faults mbox.old ≤ M.faults mbox.new }
-    ensures cause { IfErr result (λ why. CauseOf (Rose (M.faults mbox.old) (M.faults mbox.new)) ⊥
-        (TakesAll (M.left mbox.old) (M.left mbox.new) mbox_budget) ⊥ (refusal_of why)) }
-    ensures took { TakesUpTo (M.left mbox.old) (M.left mbox.new) mbox_budget }
-    ensures clock { AsksClock C.asked (is_none at) clock.old clock.new (IsErrOf result RunFault.Memory) }
-{
-    let mut follower = Follower::new(alloc, me)?;
-    follower.at(moment_or_now(at, clock), steps)?;
-    follow_mails(&mut follower, mbox, steps)?;
-    Ok(follower)
-}
-
-/// Makes the moment that comes last, where there is one.
-fn make_last<L: Ledger>(
-    follower: &mut Follower,
-    at: Option<u64>,
-    steps: &mut Steps<L>,
-) -> Result<(), RunFault>
-    requires usable { IsUsable follower.old }
-    requires moment { IfSome at (λ moment. moment ≤ last_moment) }
-    ensures goes { LastGoes at result follower.old follower.new }
-    ensures current { OnOk result (follower.new.stale ≡ false) }
-    ensures cause { IfErr result (λ why. (why ≡ fault.Full) ⊎ (why ≡ fault.Memory)) }
-{
-    match at {
-        Some(moment) => follower.at(moment, steps),
-        None => Ok(()),
-    }
-}
-
-/// Follows the steps file, and then a moment comes where the words give one.
-fn follow_steps<M: Source, S: Source, L: Ledger>(
-    alloc: Global,
-    me: Addr,
-    at: Option<u64>,
-    mbox: &mut M,
-    steps_file: &mut S,
-    steps: &mut Steps<L>,
-) -> Result<Follower, RunFault>
-    requires { IfSome at (λ moment. moment ≤ last_moment) }
-    ensures goes { (bytes lines : Bytes) → M.left mbox.old ≡ Some bytes → S.left steps_file.old ≡ Some lines
-        → FollowGoes result (reached (first_state me) (feed (first_state me) bytes (Some lines) at)) }
-    ensures current { IfOk result (λ f. f.stale ≡ false) }
-    ensures mbox_later { M.faults mbox.old ≤ M.faults mbox.new }
-    ensures steps_later { S.faults steps_file.old ≤ S.faults steps_file.new }
-    ensures cause { IfErr result (λ why. CauseOf (Rose (M.faults mbox.old) (M.faults mbox.new)) (Rose (S.faults steps_file.old) (S.faults steps_file.new))
-        (TakesAll (M.left mbox.old) (M.left mbox.new) mbox_budget) (TakesAll (S.left steps_file.old) (S.left steps_file.new) steps_budget) (refusal_of why)) }
-    ensures mbox_took { TakesUpTo (M.left mbox.old) (M.left mbox.new) mbox_budget }
-    ensures steps_took { TakesUpTo (S.left steps_file.old) (S.left steps_file.new) steps_budget }
-{
-    let mut follower = Follower::new(alloc, me)?;
-    follow_lines(&mut follower, mbox, steps_file, steps)?;
-    make_last(&mut follower, at, steps)?;
-    Ok(follower)
-}
-
-/// Follows the files, with a flag that says whether a steps file is given.
-fn follow_files<M: Source, S: Source, C: Clock, L: Ledger>(
-    alloc: Global,
-    me: Addr,
-    at: Option<u64>,
-    given: bool,
-    mbox: &mut M,
-    steps_file: &mut S,
-    clock: &mut C,
-    steps: &mut Steps<L>,
-) -> Result<Follower, RunFault>
-    requires { IfSome at (λ moment. moment ≤ last_moment) }
-    ensures goes { (bytes : Bytes) (lines : Option Bytes) (next : ℕ) → M.left mbox.old ≡ Some bytes
-        → TellsSteps given (S.left steps_file.old) lines → ClockGives (not given && is_none at) (C.next clock.old) next
-        → FollowGoes result (reached (first_state me) (feed (first_state me) bytes lines (moment_of_run at (is_some lines) next))) }
-    ensures current { IfOk result (λ f. f.stale ≡ false) }
-    ensures cause { IfErr result (λ why. CauseOf (Rose (M.faults mbox.old) (M.faults mbox.new)) (Rose (S.faults steps_file.old) (S.faults steps_file.new))
-        (TakesAll (M.left mbox.old) (M.left mbox.new) mbox_budget) (TakesAll (S.left steps_file.old) (S.left steps_file.new) steps_budget) (refusal_of why)) }
-    ensures mbox_took { TakesUpTo (M.left mbox.old) (M.left mbox.new) mbox_budget }
-    ensures steps_took { TakesUpTo (S.left steps_file.old) (S.left steps_file.new) steps_budget }
-    ensures clock { AsksClock C.asked (not given && is_none at) clock.old clock.new (IsErrOf result RunFault.Memory) }
-{
-    if given {
-        follow_steps(alloc, me, at, mbox, steps_file, steps)
-    } else {
-        follow_mbox(alloc, me, at, mbox, clock, steps)
-    }
-}
-
 /// Follows the files and prints the answer to a question, or says why there is none.
-fn reply_to<M: Source, S: Source, C: Clock, K: Sink, L: Ledger>(
+fn reply_to<M: Source, S: Source, H: Shelf, C: Clock, K: Sink, L: Ledger>(
     alloc: Global,
     me: Addr,
     at: Option<u64>,
@@ -145,34 +32,47 @@ fn reply_to<M: Source, S: Source, C: Clock, K: Sink, L: Ledger>(
     given: bool,
     mbox: &mut M,
     steps_file: &mut S,
+    shelf: &mut H,
     clock: &mut C,
     out: &mut K,
     steps: &mut Steps<L>,
 ) -> Result<(), Refusal>
     requires { IfSome at (λ moment. moment ≤ last_moment) }
-    ensures puts { (bytes : Bytes) (lines : Option Bytes) (next : ℕ) → M.left mbox.old ≡ Some bytes
-        → TellsSteps given (S.left steps_file.old) lines → ClockGives (not given && is_none at) (C.next clock.old) next
-        → Puts (result_of question.now (given_of me at bytes lines next)) (K.held out.old) (K.held out.new) result }
+    ensures puts { (bytes : Bytes) (lines : Option Bytes) (places : Places) (next : ℕ) → M.left mbox.old ≡ Some bytes
+        → TellsSteps given (S.left steps_file.old) lines → H.seen shelf.old ≡ Some places
+        → ClockGives (not given && is_none at) (C.next clock.old) next
+        → Puts (result_of question.now (given_of me at bytes lines places next)) (K.held out.old) (K.held out.new) result }
+    ensures crash { (bytes : Bytes) (lines : Option Bytes) (places : Places) (next : ℕ) → M.left mbox.old ≡ Some bytes
+        → TellsSteps given (S.left steps_file.old) lines → H.seen shelf.old ≡ Some places
+        → ClockGives (not given && is_none at) (C.next clock.old) next
+        → LeavesOnly H.moment H.left_since shelf.old shelf.new (MayStand (given_of me at bytes lines places next) (H.may_leave shelf.old)) }
+    ensures lasting { (bytes : Bytes) (lines : Option Bytes) (places : Places) (next : ℕ) → M.left mbox.old ≡ Some bytes
+        → TellsSteps given (S.left steps_file.old) lines → H.seen shelf.old ≡ Some places
+        → ClockGives (not given && is_none at) (C.next clock.old) next
+        → OnLast (status_in result) (KeepsAll (given_of me at bytes lines places next) (H.may_leave shelf.new)) }
     ensures no_usage { IfErr result (λ why. (why ≢ refusal.Usage) × (why ≢ refusal.Unbuilt)) }
     ensures write { IsErrOf result Refusal.Write → Rose (K.faults out.old) (K.faults out.new) }
     ensures nothing { IfErr result (λ why. why ≢ refusal.Write → out.new ≡ out.old) }
     ensures cause { IfErr result (CauseOf (Rose (M.faults mbox.old) (M.faults mbox.new)) (Rose (S.faults steps_file.old) (S.faults steps_file.new))
-        (TakesAll (M.left mbox.old) (M.left mbox.new) mbox_budget) (TakesAll (S.left steps_file.old) (S.left steps_file.new) steps_budget)) }
+        (Rose (H.faults shelf.old) (H.faults shelf.new)) (TakesAll (M.left mbox.old) (M.left mbox.new) mbox_budget) (TakesAll (S.left steps_file.old) (S.left steps_file.new) steps_budget)) }
     ensures mbox_took { TakesUpTo (M.left mbox.old) (M.left mbox.new) mbox_budget }
     ensures steps_took { TakesUpTo (S.left steps_file.old) (S.left steps_file.new) steps_budget }
     ensures clock { AsksClock C.asked (not given && is_none at) clock.old clock.new (IsErrOf result Refusal.Memory) }
 {
-    let follower = follow_files(alloc, me, at, given, mbox, steps_file, clock, steps)?;
-    Ok(print_answer(alloc, follower.engine(), question, out, steps)?)
+    match follow_files(alloc, &me, at, given, mbox, steps_file, shelf, clock, steps) {
+        Ok(follower) => Ok(print_answer(alloc, follower.engine(), question, out, steps)?),
+        Err(fault) => Err(Refusal::of_fault(fault, me)),
+    }
 }
 
 /// The reply to the words, as a status: `Ok`, or why no answer was put whole.
-fn reply<M: Source, S: Source, C: Clock, K: Sink, L: Ledger>(
+fn reply<M: Source, S: Source, H: Shelf, C: Clock, K: Sink, L: Ledger>(
     alloc: Global,
     words: &[Text],
     given: bool,
     mbox: &mut M,
     steps_file: &mut S,
+    shelf: &mut H,
     clock: &mut C,
     out: &mut K,
     steps: &mut Steps<L>,
@@ -180,14 +80,23 @@ fn reply<M: Source, S: Source, C: Clock, K: Sink, L: Ledger>(
     ensures usage { IsErrOf result Refusal.Usage → request words.now ≡ None }
     ensures early { IfSome (early (request words.now)) (λ why. IsErrOf result why ⊎ IsErrOf result Refusal.Memory) }
     ensures unbuilt { IsErrOf result Refusal.Unbuilt → early (request words.now) ≡ Some refusal.Unbuilt }
-    ensures untouched { IfSome (early (request words.now)) (λ why. (mbox.new ≡ mbox.old) × (steps_file.new ≡ steps_file.old)) }
-    ensures puts { (bytes : Bytes) (lines : Option Bytes) (next : ℕ) → M.left mbox.old ≡ Some bytes
-        → TellsSteps given (S.left steps_file.old) lines → ClockGives (needs_clock (request words.now) given) (C.next clock.old) next
-        → Puts (outcome words.now bytes lines next) (K.held out.old) (K.held out.new) result }
+    ensures untouched { IfSome (early (request words.now)) (λ why. (mbox.new ≡ mbox.old) × (steps_file.new ≡ steps_file.old) × (shelf.new ≡ shelf.old)) }
+    ensures puts { (bytes : Bytes) (lines : Option Bytes) (places : Places) (next : ℕ) → M.left mbox.old ≡ Some bytes
+        → TellsSteps given (S.left steps_file.old) lines → H.seen shelf.old ≡ Some places
+        → ClockGives (needs_clock (request words.now) given) (C.next clock.old) next
+        → Puts (outcome words.now bytes lines places next) (K.held out.old) (K.held out.new) result }
+    ensures crash { (bytes : Bytes) (lines : Option Bytes) (places : Places) (next : ℕ) → M.left mbox.old ≡ Some bytes
+        → TellsSteps given (S.left steps_file.old) lines → H.seen shelf.old ≡ Some places
+        → ClockGives (needs_clock (request words.now) given) (C.next clock.old) next
+        → LeavesOnly H.moment H.left_since shelf.old shelf.new (MayStandIf (given_in (request words.now) bytes lines places next) (H.may_leave shelf.old)) }
+    ensures lasting { (bytes : Bytes) (lines : Option Bytes) (places : Places) (next : ℕ) → M.left mbox.old ≡ Some bytes
+        → TellsSteps given (S.left steps_file.old) lines → H.seen shelf.old ≡ Some places
+        → ClockGives (needs_clock (request words.now) given) (C.next clock.old) next
+        → LastIf (given_in (request words.now) bytes lines places next) (status_in result) (H.may_leave shelf.new) }
     ensures write { IsErrOf result Refusal.Write → Rose (K.faults out.old) (K.faults out.new) }
     ensures nothing { IfErr result (λ why. why ≢ refusal.Write → out.new ≡ out.old) }
     ensures cause { IfErr result (CauseOf (Rose (M.faults mbox.old) (M.faults mbox.new)) (Rose (S.faults steps_file.old) (S.faults steps_file.new))
-        (TakesAll (M.left mbox.old) (M.left mbox.new) mbox_budget) (TakesAll (S.left steps_file.old) (S.left steps_file.new) steps_budget)) }
+        (Rose (H.faults shelf.old) (H.faults shelf.new)) (TakesAll (M.left mbox.old) (M.left mbox.new) mbox_budget) (TakesAll (S.left steps_file.old) (S.left steps_file.new) steps_budget)) }
     ensures mbox_took { TakesUpTo (M.left mbox.old) (M.left mbox.new) mbox_budget }
     ensures steps_took { TakesUpTo (S.left steps_file.old) (S.left steps_file.new) steps_budget }
     ensures clock { AsksClock C.asked (needs_clock (request words.now) given) clock.old clock.new (IsErrOf result Refusal.Memory) }
@@ -200,7 +109,7 @@ fn reply<M: Source, S: Source, C: Clock, K: Sink, L: Ledger>(
         return Err(Refusal::Unbuilt);
     };
     reply_to(
-        alloc, me, at, &question, given, mbox, steps_file, clock, out, steps,
+        alloc, me, at, &question, given, mbox, steps_file, shelf, clock, out, steps,
     )
 }
 
@@ -208,9 +117,9 @@ fn reply<M: Source, S: Source, C: Clock, K: Sink, L: Ledger>(
 ///
 /// - `line`: the line of a refusal with that status was put, or a prefix of it where the sink's count rose. It is the
 ///   refusal that was given, or that memory ran out for its line.
-fn refuse<K: Sink>(alloc: Global, why: Refusal, out: &mut K) -> Status
-    ensures status { (result ≡ status_of why) ⊎ (result ≡ Status.Memory) }
-    ensures line { (said : Refusal) × (result ≡ status_of said) × ((said ≡ why) ⊎ (said ≡ refusal.Memory))
+fn refuse<K: Sink>(alloc: Global, why: &Refusal, out: &mut K) -> Status
+    ensures status { (result ≡ status_of why.now) ⊎ (result ≡ Status.Memory) }
+    ensures line { (said : Refusal) × (result ≡ status_of said) × ((said ≡ why.now) ⊎ (said ≡ refusal.Memory))
         × PutsWhole (K.held out.old) (K.held out.new) (line_of said) (Rose (K.faults out.old) (K.faults out.new)) }
 {
     // The status is the same where the line can't be put.
@@ -227,44 +136,59 @@ fn refuse<K: Sink>(alloc: Global, why: Refusal, out: &mut K) -> Status
 }
 
 /// The run, with a flag that says whether a steps file is given.
-fn run_given<M: Source, S: Source, C: Clock, K: Sink, L: Ledger>(
+fn run_given<M: Source, S: Source, H: Shelf, C: Clock, K: Sink, L: Ledger>(
     alloc: Global,
     words: &[Text],
     given: bool,
     mbox: &mut M,
     steps_file: &mut S,
+    shelf: &mut H,
     clock: &mut C,
     out: &mut K,
     steps: &mut Steps<L>,
 ) -> Status
     ensures usage { ComesWhere Status.Usage (request words.now ≡ None) result }
     ensures unbuilt { ComesWhere Status.Unbuilt (early (request words.now) ≡ Some refusal.Unbuilt) result }
-    ensures untouched { IfSome (early (request words.now)) (λ why. (mbox.new ≡ mbox.old) × (steps_file.new ≡ steps_file.old)) }
+    ensures untouched { IfSome (early (request words.now)) (λ why. (mbox.new ≡ mbox.old) × (steps_file.new ≡ steps_file.old) × (shelf.new ≡ shelf.old)) }
     ensures write { result ≡ Status.Write → Rose (K.faults out.old) (K.faults out.new) }
-    ensures status { (bytes : Bytes) (lines : Option Bytes) (next : ℕ) → M.left mbox.old ≡ Some bytes
-        → TellsSteps given (S.left steps_file.old) lines → ClockGives (needs_clock (request words.now) given) (C.next clock.old) next
-        → Agrees (outcome words.now bytes lines next) result }
-    ensures answer { (bytes : Bytes) (lines : Option Bytes) (next : ℕ) → M.left mbox.old ≡ Some bytes
-        → TellsSteps given (S.left steps_file.old) lines → ClockGives (needs_clock (request words.now) given) (C.next clock.old) next
-        → PutsAnswer (K.held out.old) (K.held out.new) (outcome words.now bytes lines next) result }
+    ensures status { (bytes : Bytes) (lines : Option Bytes) (places : Places) (next : ℕ) → M.left mbox.old ≡ Some bytes
+        → TellsSteps given (S.left steps_file.old) lines → H.seen shelf.old ≡ Some places
+        → ClockGives (needs_clock (request words.now) given) (C.next clock.old) next
+        → Agrees (outcome words.now bytes lines places next) result }
+    ensures answer { (bytes : Bytes) (lines : Option Bytes) (places : Places) (next : ℕ) → M.left mbox.old ≡ Some bytes
+        → TellsSteps given (S.left steps_file.old) lines → H.seen shelf.old ≡ Some places
+        → ClockGives (needs_clock (request words.now) given) (C.next clock.old) next
+        → PutsAnswer (K.held out.old) (K.held out.new) (outcome words.now bytes lines places next) result }
+    ensures crash { (bytes : Bytes) (lines : Option Bytes) (places : Places) (next : ℕ) → M.left mbox.old ≡ Some bytes
+        → TellsSteps given (S.left steps_file.old) lines → H.seen shelf.old ≡ Some places
+        → ClockGives (needs_clock (request words.now) given) (C.next clock.old) next
+        → LeavesOnly H.moment H.left_since shelf.old shelf.new (MayStandIf (given_in (request words.now) bytes lines places next) (H.may_leave shelf.old)) }
+    ensures lasting { (bytes : Bytes) (lines : Option Bytes) (places : Places) (next : ℕ) → M.left mbox.old ≡ Some bytes
+        → TellsSteps given (S.left steps_file.old) lines → H.seen shelf.old ≡ Some places
+        → ClockGives (needs_clock (request words.now) given) (C.next clock.old) next
+        → LastIf (given_in (request words.now) bytes lines places next) result (H.may_leave shelf.new) }
     ensures line { PutsLine (K.held out.old) (K.held out.new) (CauseOf (Rose (M.faults mbox.old) (M.faults mbox.new))
-        (Rose (S.faults steps_file.old) (S.faults steps_file.new)) (TakesAll (M.left mbox.old) (M.left mbox.new) mbox_budget)
+        (Rose (S.faults steps_file.old) (S.faults steps_file.new)) (Rose (H.faults shelf.old) (H.faults shelf.new))
+        (TakesAll (M.left mbox.old) (M.left mbox.new) mbox_budget)
         (TakesAll (S.left steps_file.old) (S.left steps_file.new) steps_budget)) (Rose (K.faults out.old) (K.faults out.new)) result }
     ensures mbox_took { TakesUpTo (M.left mbox.old) (M.left mbox.new) mbox_budget }
     ensures steps_took { TakesUpTo (S.left steps_file.old) (S.left steps_file.new) steps_budget }
     ensures clock { AsksClock C.asked (needs_clock (request words.now) given) clock.old clock.new (result ≡ Status.Memory) }
 {
-    match reply(alloc, words, given, mbox, steps_file, clock, out, steps) {
+    match reply(
+        alloc, words, given, mbox, steps_file, shelf, clock, out, steps,
+    ) {
         Ok(()) => Status::Ok,
         // The sink took a prefix of the answer, after which no line comes.
         Err(why) if why == Refusal::Write => Status::Write,
-        Err(why) => refuse(alloc, why, out),
+        Err(why) => refuse(alloc, &why, out),
     }
 }
 
 /// Runs the words of a command line over the devices, and puts the answer, or the line that says why there is none.
 ///
-/// It follows the mailbox from its beginning. Without a steps file a moment comes, in seconds since 1970-01-01 00:00:00
+/// It opens what the shelf keeps and goes on from there, and commits whenever 256 changes are pending and at the end, before
+/// it prints. Where nothing is kept it follows the mailbox from its beginning. Without a steps file a moment comes, in seconds since 1970-01-01 00:00:00
 /// UTC, and then each mail of the mbox arrives: the moment of the option `--at`, or the clock's, which is asked once, and
 /// only there. With a steps file its lines are made in order, and then the moment of `--at` comes, where that is given. Of
 /// the mailbox that this gives the list, a chat, the contacts or the updates of an app are printed.
@@ -272,13 +196,13 @@ fn run_given<M: Source, S: Source, C: Clock, K: Sink, L: Ledger>(
 /// - `Usage` comes exactly where the words are written as no request, and `Unbuilt` exactly where the command is `trial`,
 ///   or `updates` with `--info`.
 /// - `Read` comes only at a fault of the mbox or the steps file in this call, `Endless` only where 2^36 bytes of the mbox
-///   or 2^32 bytes of the steps file were taken, and `Write` only at a fault of the sink. `Memory` may come at any point.
+///   or 2^32 bytes of the steps file were taken, `Disk` only at a fault of the shelf, and `Write` only at a fault of the sink. `Memory` may come at any point.
 /// - `Steps` comes exactly at the first ended line of the steps file that is no step, or takes the next mail where there
 ///   is none; `Full` exactly at an arrival for which the mailbox has no place, or after 2^62 changes.
+/// - `Damaged` comes exactly where what is kept is damaged, `OtherMe` exactly where it is the mailbox of another address, and
+///   `Short` exactly where an input ends before the place up to which it was followed.
 /// - `NoChat` comes exactly where KEY is the text of no key in the list, and `NoApp` exactly where ID is the id of no
 ///   shown app.
-///
-/// The shelf is not called.
 pub fn run<M: Source, S: Source, H: Shelf, C: Clock, K: Sink, L: Ledger>(
     alloc: Global,
     words: &[Text],
@@ -295,26 +219,36 @@ pub fn run<M: Source, S: Source, H: Shelf, C: Clock, K: Sink, L: Ledger>(
     ensures write { result ≡ Status.Write → Rose (K.faults out.old) (K.faults out.new) }
     // Where the bytes of the inputs are known, and the moment of a clock that is asked, any status but Read, Endless and
     // Memory is that of the outcome.
-    ensures status { (bytes : Bytes) (lines : Option Bytes) (next : ℕ) → M.left mbox.old ≡ Some bytes → LentTells S.left steps_file.entry lines
-        → ClockGives (needs_clock (request words.now) (is_some steps_file.entry)) (C.next clock.old) next
-        → Agrees (outcome words.now bytes lines next) result }
+    ensures status { (bytes : Bytes) (lines : Option Bytes) (places : Places) (next : ℕ) → M.left mbox.old ≡ Some bytes → LentTells S.left steps_file.entry lines
+        → H.seen shelf.old ≡ Some places → ClockGives (needs_clock (request words.now) (is_some steps_file.entry)) (C.next clock.old) next
+        → Agrees (outcome words.now bytes lines places next) result }
 
     // What is put.
-    ensures answer { (bytes : Bytes) (lines : Option Bytes) (next : ℕ) → M.left mbox.old ≡ Some bytes → LentTells S.left steps_file.entry lines
-        → ClockGives (needs_clock (request words.now) (is_some steps_file.entry)) (C.next clock.old) next
-        → PutsAnswer (K.held out.old) (K.held out.new) (outcome words.now bytes lines next) result }
+    ensures answer { (bytes : Bytes) (lines : Option Bytes) (places : Places) (next : ℕ) → M.left mbox.old ≡ Some bytes → LentTells S.left steps_file.entry lines
+        → H.seen shelf.old ≡ Some places → ClockGives (needs_clock (request words.now) (is_some steps_file.entry)) (C.next clock.old) next
+        → PutsAnswer (K.held out.old) (K.held out.new) (outcome words.now bytes lines places next) result }
     ensures line { PutsLine (K.held out.old) (K.held out.new) (CauseOf (Rose (M.faults mbox.old) (M.faults mbox.new))
         (IfLentAnd steps_file.entry steps_file.exit (λ before after. Rose (S.faults before) (S.faults after)))
-        (TakesAll (M.left mbox.old) (M.left mbox.new) mbox_budget)
+        (Rose (H.faults shelf.old) (H.faults shelf.new)) (TakesAll (M.left mbox.old) (M.left mbox.new) mbox_budget)
         (IfLentAnd steps_file.entry steps_file.exit (λ before after. TakesAll (S.left before) (S.left after) steps_budget)))
         (Rose (K.faults out.old) (K.faults out.new)) result }
 
+    // What is kept: at any moment a crash leaves the state of a crash outcome at the start, or that after the first changes, of
+    // whole commits of 256 or all; and once the last commit is made, or a change or an input refuses to go on, what is kept then.
+    ensures crash { (bytes : Bytes) (lines : Option Bytes) (places : Places) (next : ℕ) → M.left mbox.old ≡ Some bytes → LentTells S.left steps_file.entry lines
+        → H.seen shelf.old ≡ Some places → ClockGives (needs_clock (request words.now) (is_some steps_file.entry)) (C.next clock.old) next
+        → LeavesOnly H.moment H.left_since shelf.old shelf.new (MayStandIf (given_in (request words.now) bytes lines places next) (H.may_leave shelf.old)) }
+    ensures lasting { (bytes : Bytes) (lines : Option Bytes) (places : Places) (next : ℕ) → M.left mbox.old ≡ Some bytes → LentTells S.left steps_file.entry lines
+        → H.seen shelf.old ≡ Some places → ClockGives (needs_clock (request words.now) (is_some steps_file.entry)) (C.next clock.old) next
+        → LastIf (given_in (request words.now) bytes lines places next) result (H.may_leave shelf.new) }
+
     // Where nothing fails and the inputs end, the answer comes, unless memory runs out.
-    ensures complete { (bytes text : Bytes) (lines : Option Bytes) (next : ℕ) → M.left mbox.old ≡ Some bytes → LentTells S.left steps_file.entry lines
+    ensures complete { (bytes text : Bytes) (lines : Option Bytes) (places : Places) (next : ℕ) → M.left mbox.old ≡ Some bytes
+        → LentTells S.left steps_file.entry lines → H.seen shelf.old ≡ Some places
         → ClockGives (needs_clock (request words.now) (is_some steps_file.entry)) (C.next clock.old) next
-        → outcome words.now bytes lines next ≡ Ok text
+        → outcome words.now bytes lines places next ≡ Ok text
         → length bytes < mbox_budget → IfSome lines (λ lines. length lines < steps_budget)
-        → ¬ Rose (M.faults mbox.old) (M.faults mbox.new) → ¬ Rose (K.faults out.old) (K.faults out.new)
+        → ¬ Rose (M.faults mbox.old) (M.faults mbox.new) → ¬ Rose (K.faults out.old) (K.faults out.new) → ¬ Rose (H.faults shelf.old) (H.faults shelf.new)
         → ¬ IfLentAnd steps_file.entry steps_file.exit (λ before after. Rose (S.faults before) (S.faults after))
         → (result ≡ Status.Ok × Appends (K.held out.old) (K.held out.new) text) ⊎ (result ≡ Status.Memory) }
 
@@ -323,11 +257,23 @@ pub fn run<M: Source, S: Source, H: Shelf, C: Clock, K: Sink, L: Ledger>(
     ensures steps_untouched { IfSome (early (request words.now)) (λ why. IfLent steps_file.entry steps_file.exit (λ before after. after ≡ before)) }
     ensures mbox_took { TakesUpTo (M.left mbox.old) (M.left mbox.new) mbox_budget }
     ensures steps_took { IfLent steps_file.entry steps_file.exit (λ before after. TakesUpTo (S.left before) (S.left after) steps_budget) }
-    ensures shelf { shelf.new ≡ shelf.old }
+    ensures shelf_untouched { IfSome (early (request words.now)) (λ why. shelf.new ≡ shelf.old) }
     ensures clock { AsksClock C.asked (needs_clock (request words.now) (is_some steps_file.entry)) clock.old clock.new (result ≡ Status.Memory) }
 {
     match steps_file {
-        Some(steps_file) => run_given(alloc, words, true, mbox, steps_file, clock, out, steps),
-        None => run_given(alloc, words, false, mbox, &mut NoSource, clock, out, steps),
+        Some(steps_file) => run_given(
+            alloc, words, true, mbox, steps_file, shelf, clock, out, steps,
+        ),
+        None => run_given(
+            alloc,
+            words,
+            false,
+            mbox,
+            &mut NoSource,
+            shelf,
+            clock,
+            out,
+            steps,
+        ),
     }
 }

@@ -6,7 +6,8 @@ use Rattle.mailbox_model.specs.declared.change.Change.TheVariants.{ArriveFault, 
 use Rattle.mailbox_model.specs.declared.change.Fault.TheVariants.{NoFields}
 use Rattle.mailbox_model.specs.Lists.{Bytes}
 use Rattle.state_image.specs.declared.position.Position.{Position}
-use Rattle.follower.specs.Feed.{BadLine, End, Fed, feed, first_state}
+use Rattle.state_store.specs.States.{first_state}
+use Rattle.follower.specs.Feed.{BadLine, End, Fed, feed}
 
 abbrev me : Bytes
 me = codes "me@x.org"

@@ -1,4 +1,8 @@
 -- Lemmas of this crate, and rows that compute.
 pub mod Turning
 pub mod Going
+pub mod Committing
+pub mod Rounds
+pub mod NextChange
+pub mod Resuming
 mod FeedRows

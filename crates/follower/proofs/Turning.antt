@@ -28,15 +28,18 @@ use Rattle.follower.specs.declared.fault.RunFault.{RunFault}
 use Rattle.follower.specs.declared.fault.RunFault.TheVariants as fault
 use Rattle.state_image.specs.declared.position.Position.{Position}
 use Rattle.follower.specs.Arrivals.{arrival_of, arrival_taken, arrival_with}
-use Rattle.follower.specs.Feed.{Fed, Feed, State, after_fed, at_line, at_mail, counted, fed_first, line_fed, lines_fed, mail_fed, mails_fed}
-use Rattle.follower.specs.Following.{ArrivesNext, Following, Makes, to_come, lines_ahead, mails_ahead}
+use Rattle.state_store.specs.States.{State}
+use Rattle.keeper.specs.Keeping.{is_refused}
+use Rattle.keeper.specs.declared.fault.KeepFault.{KeepFault}
+use Rattle.keeper.specs.declared.fault.KeepFault.TheVariants as of_keeper
+use Rattle.follower.specs.Feed.{Fed, Feed, after_fed, at_line, at_mail, counted, fed_first, line_fed, lines_fed, mail_fed, mails_fed}
+use Rattle.follower.specs.Following.{ArrivesNext, Following, IsKeepFault, Makes, keep_fault, to_come, lines_ahead, mails_ahead}
 use Rattle.follower.specs.Going.{MakesFirst, RefusesFirst, StopsAt}
-use Rattle.follower.specs.Reached.{is_refused}
 
 -- ---- one change
 
 -- an arrival takes the next uid
-arrives : (m : Mailbox) (uid : ℕ) (mail : Mail) → (after m (arrival_of uid mail)).next_uid ≡ m.next_uid + 1
+pub arrives : (m : Mailbox) (uid : ℕ) (mail : Mail) → (after m (arrival_of uid mail)).next_uid ≡ m.next_uid + 1
 arrives m uid mail = by (nat_lt max_mail_len (length mail.bytes)) (card_of uid mail.bytes)
   where
     by : (b : Bool) (r : Result Card CardFault) → (after m (if b then ArriveFault is_fault.TooLong else arrival_with r)).next_uid ≡ m.next_uid + 1
@@ -158,21 +161,21 @@ long_arrival : (uid : ℕ) (mail : Mail) → max_mail_len < length mail.bytes �
 long_arrival uid mail long = ap (λ b. if b then ArriveFault is_fault.TooLong else arrival_with (card_of uid mail.bytes)) (lt-ltb max_mail_len (length mail.bytes) long)
 
 -- the arrival of what the reader of the mbox gives
-pub arrives_next : (old new : Following) (mails others : List Mail) (t : Taken) (change : Option Change) → change ≡ arrival_taken old.state.mailbox.next_uid t
+pub arrives_next : (old new : Following) (mails others : List Mail) (t : Taken) (change : Option Change) → change ≡ arrival_taken old.keeper.state.mailbox.next_uid t
     → IsNext mails t old.mbox new.mbox others → ArrivesNext old mails change new others
 arrives_next old new mails others t change is h = subst (λ change. ArrivesNext old mails change new others) (sym is) (by mails t h)
   where
-    by : (mails : List Mail) (t : Taken) → IsNext mails t old.mbox new.mbox others → ArrivesNext old mails (arrival_taken old.state.mailbox.next_uid t) new others
+    by : (mails : List Mail) (t : Taken) → IsNext mails t old.mbox new.mbox others → ArrivesNext old mails (arrival_taken old.keeper.state.mailbox.next_uid t) new others
     by [] (taken.Mail v) h = absurd h
     by [] (taken.TooLong) h = absurd h
     by [] (taken.End) h = h.0
     by (mail ∷ mails) (taken.End) h = absurd h
     by (mail ∷ mails) (taken.Mail v) h =
-        (ap (λ bytes. arrival_with (card_of old.state.mailbox.next_uid bytes)) h.0 ∙ sym (short_arrival old.state.mailbox.next_uid mail h.1), h.2, h.4)
-    by (mail ∷ mails) (taken.TooLong) h = (sym (long_arrival old.state.mailbox.next_uid mail h.0), h.1, h.3)
+        (ap (λ bytes. arrival_with (card_of old.keeper.state.mailbox.next_uid bytes)) h.0 ∙ sym (short_arrival old.keeper.state.mailbox.next_uid mail h.1), h.2, h.4)
+    by (mail ∷ mails) (taken.TooLong) h = (sym (long_arrival old.keeper.state.mailbox.next_uid mail h.0), h.1, h.3)
 
 -- over what the follower has ahead
-pub next_known : (l m : Option (List ℕ)) (old new : Following) (r : Reading) (t : Taken) (change : Option Change) → r ≡ old.mbox → change ≡ arrival_taken old.state.mailbox.next_uid t
+pub next_known : (l m : Option (List ℕ)) (old new : Following) (r : Reading) (t : Taken) (change : Option Change) → r ≡ old.mbox → change ≡ arrival_taken old.keeper.state.mailbox.next_uid t
     → IfKnown l m (λ before after. IsNext (mails_from (mbox_position r) (r.held ++ before)) t r new.mbox (mails_ahead new after))
     → IfKnown l m (λ before after. ArrivesNext old (mails_ahead old before) change new (mails_ahead new after))
 next_known l m old new r t change e is k = if_known l m _ _ (λ before after. arrives_next old new (mails_ahead old before) (mails_ahead new after) t change is)
@@ -196,19 +199,19 @@ if_same None P f = tt
 if_same (Some b) P f = f b
 
 pub makes_next : (old new : Following) (p : Position) (mails others : List Mail) (change : Change) → ArrivesNext old mails (Some change) new others
-    → Makes step.Next old.state.mailbox.next_uid p mails (change, record p { mbox = new.mbox.place }) others
+    → Makes step.Next old.keeper.state.mailbox.next_uid p mails (change, record p { mbox = new.mbox.place }) others
 makes_next old new p [] others change h = absurd h
 makes_next old new p (mail ∷ mails) others change h =
-    (ap (λ c. (c, record p { mbox = new.mbox.place })) h.0 ∙ ap (λ place. (arrival_of old.state.mailbox.next_uid mail, record p { mbox = place })) h.1, h.2)
+    (ap (λ c. (c, record p { mbox = new.mbox.place })) h.0 ∙ ap (λ place. (arrival_of old.keeper.state.mailbox.next_uid mail, record p { mbox = place })) h.1, h.2)
 
 -- the step that takes the next mail
 pub next_makes : (l m : Option (List ℕ)) (old mid : Following) (st : Step) (p q : Position) (o : Option Change) (change : Change) → st ≡ step.Next → o ≡ Some change
     → IfKnown l m (λ before after. ArrivesNext old (mails_ahead old before) o mid (mails_ahead mid after)) → q ≡ record p { mbox = mid.mbox.place }
-    → IfKnown l m (λ before after. Makes st old.state.mailbox.next_uid p (mails_ahead old before) (change, q) (mails_ahead mid after))
+    → IfKnown l m (λ before after. Makes st old.keeper.state.mailbox.next_uid p (mails_ahead old before) (change, q) (mails_ahead mid after))
 next_makes l m old mid st p q o change next some known place = if_known l m _ _ (λ before after h.
     let a : ArrivesNext old (mails_ahead old before) (Some change) mid (mails_ahead mid after) = subst (λ o. ArrivesNext old (mails_ahead old before) o mid (mails_ahead mid after)) some h in
-    subst (λ st. Makes st old.state.mailbox.next_uid p (mails_ahead old before) (change, q) (mails_ahead mid after)) (sym next)
-    (subst (λ q. Makes step.Next old.state.mailbox.next_uid p (mails_ahead old before) (change, q) (mails_ahead mid after)) (sym place)
+    subst (λ st. Makes st old.keeper.state.mailbox.next_uid p (mails_ahead old before) (change, q) (mails_ahead mid after)) (sym next)
+    (subst (λ q. Makes step.Next old.keeper.state.mailbox.next_uid p (mails_ahead old before) (change, q) (mails_ahead mid after)) (sym place)
     (makes_next old mid p (mails_ahead old before) (mails_ahead mid after) change a))) known
 
 -- ---- a turn of a mail
@@ -216,95 +219,115 @@ next_makes l m old mid st p q o change next some known place = if_known l m _ _ 
 -- over what the calls of a turn say
 module _ (l m : Option (List ℕ)) (old mid : Following) (o : Option Change) (change : Change) (rest : mid ≡ record old { mbox = mid.mbox }) (some : o ≡ Some change)
     (next : IfKnown l m (λ before after. ArrivesNext old (mails_ahead old before) o mid (mails_ahead mid after))) where
-  same_state : mid.state ≡ old.state
-  same_state = ap (λ (f : Following). f.state) rest
+  same_state : mid.keeper.state ≡ old.keeper.state
+  same_state = ap (λ (f : Following). f.keeper.state) rest
 
   arrived : (P : List ℕ → List ℕ → Type 0) → ((before after : List ℕ) → ArrivesNext old (mails_ahead old before) (Some change) mid (mails_ahead mid after) → P before after) → IfKnown l m P
   arrived P f = if_known l m _ P (λ before after h. f before after (subst (λ o. ArrivesNext old (mails_ahead old before) o mid (mails_ahead mid after)) some h)) next
 
-  pub mail_turns : (new : Following) (q : Position) → is_refused mid.state change ≡ false → new.state ≡ after_fed mid.state (record { change = change; position = q })
-      → q ≡ record (counted mid.state.position) { mbox = mid.mbox.place } → new.mbox ≡ mid.mbox
-      → IfKnown l m (λ before after. MakesFirst old.state (to_come None old before None) new.state (to_come None new after None))
+  pub mail_turns : (new : Following) (q : Position) → is_refused mid.keeper.state change ≡ false → new.keeper.state ≡ after_fed mid.keeper.state (record { change = change; position = q })
+      → q ≡ record (counted mid.keeper.state.position) { mbox = mid.mbox.place } → new.mbox ≡ mid.mbox
+      → IfKnown l m (λ before after. MakesFirst old.keeper.state (to_come None old before None) new.keeper.state (to_come None new after None))
   mail_turns new q room is place same = arrived _ (λ before after h.
-      subst (λ (r : Reading). MakesFirst old.state (to_come None old before None) new.state (mails_fed new.state.mailbox.next_uid new.state.position (mails_from (mbox_position r) (r.held ++ after)))) (sym same)
+      subst (λ (r : Reading). MakesFirst old.keeper.state (to_come None old before None) new.keeper.state (mails_fed new.keeper.state.mailbox.next_uid new.keeper.state.position (mails_from (mbox_position r) (r.held ++ after)))) (sym same)
       (by (mails_ahead old before) (mails_ahead mid after) h))
     where
       by : (mails others : List Mail) → ArrivesNext old mails (Some change) mid others
-          → MakesFirst old.state (mails_fed old.state.mailbox.next_uid old.state.position mails) new.state (mails_fed new.state.mailbox.next_uid new.state.position others)
+          → MakesFirst old.keeper.state (mails_fed old.keeper.state.mailbox.next_uid old.keeper.state.position mails) new.keeper.state (mails_fed new.keeper.state.mailbox.next_uid new.keeper.state.position others)
       by [] others h = absurd h
-      by (mail ∷ mails) others h = mail_goes old.state new.state mail mails others change q h.0
-          (place ∙ ap (λ (s : State). record (counted s.position) { mbox = mid.mbox.place }) same_state ∙ ap (λ place. record (counted old.state.position) { mbox = place }) h.1) h.2
+      by (mail ∷ mails) others h = mail_goes old.keeper.state new.keeper.state mail mails others change q h.0
+          (place ∙ ap (λ (s : State). record (counted s.position) { mbox = mid.mbox.place }) same_state ∙ ap (λ place. record (counted old.keeper.state.position) { mbox = place }) h.1) h.2
           (ap (λ s. is_refused s change) (sym same_state) ∙ room) (is ∙ ap (λ s. after_fed s (record { change = change; position = q })) same_state)
 
-  pub mail_stops : (why : RunFault) → (why ≡ fault.Full) ⊎ (why ≡ fault.Memory) → (why ≡ fault.Full → is_refused mid.state change ≡ true)
-      → IfKnown l m (λ before after. StopsAt why old.state (to_come None old before None))
+  pub mail_stops : (why : RunFault) → (why ≡ fault.Full) ⊎ (why ≡ fault.Memory) → (why ≡ fault.Full → is_refused mid.keeper.state change ≡ true)
+      → IfKnown l m (λ before after. StopsAt why old.keeper.state (to_come None old before None))
   mail_stops why (inl full) refused = arrived _ (λ before after h.
-      subst (λ why. StopsAt why old.state (to_come None old before None)) (sym full) (by (mails_ahead old before) (mails_ahead mid after) h))
+      subst (λ why. StopsAt why old.keeper.state (to_come None old before None)) (sym full) (by (mails_ahead old before) (mails_ahead mid after) h))
     where
-      by : (mails others : List Mail) → ArrivesNext old mails (Some change) mid others → RefusesFirst old.state (mails_fed old.state.mailbox.next_uid old.state.position mails)
+      by : (mails others : List Mail) → ArrivesNext old mails (Some change) mid others → RefusesFirst old.keeper.state (mails_fed old.keeper.state.mailbox.next_uid old.keeper.state.position mails)
       by [] others h = absurd h
-      by (mail ∷ mails) others h = mail_full old.state mail mails change h.0 (ap (λ s. is_refused s change) (sym same_state) ∙ refused full)
-  mail_stops why (inr memory) refused = arrived _ (λ before after h. subst (λ why. StopsAt why old.state (to_come None old before None)) (sym memory) tt)
+      by (mail ∷ mails) others h = mail_full old.keeper.state mail mails change h.0 (ap (λ s. is_refused s change) (sym same_state) ∙ refused full)
+  mail_stops why (inr memory) refused = arrived _ (λ before after h. subst (λ why. StopsAt why old.keeper.state (to_come None old before None)) (sym memory) tt)
 
 -- the same of a turn of a line
 module _ (l m k n : Option (List ℕ)) (old here mid : Following) (a : TakenLine) (st : Step) (p : Position) (made : Change × Position)
-    (lines : here ≡ record old { lines = here.lines }) (rest : mid ≡ record here { mbox = mid.mbox }) (stands : old.state.position.steps ≡ old.lines.place)
+    (lines : here ≡ record old { lines = here.lines }) (rest : mid ≡ record here { mbox = mid.mbox }) (stands : old.keeper.state.position.steps ≡ old.lines.place)
     (is : a ≡ taken_line.Step st) (next : IfKnown k n (λ before after. IsNextLine (lines_ahead old before) a old.lines here.lines (lines_ahead here after)))
-    (place : p ≡ record (counted old.state.position) { steps = here.lines.place; lines = old.state.position.lines + 1 })
-    (makes : IfKnown l m (λ before after. Makes st here.state.mailbox.next_uid p (mails_ahead here before) made (mails_ahead mid after))) where
-  here_state : here.state ≡ old.state
-  here_state = ap (λ (f : Following). f.state) lines
+    (place : p ≡ record (counted old.keeper.state.position) { steps = here.lines.place; lines = old.keeper.state.position.lines + 1 })
+    (makes : IfKnown l m (λ before after. Makes st here.keeper.state.mailbox.next_uid p (mails_ahead here before) made (mails_ahead mid after))) where
+  here_state : here.keeper.state ≡ old.keeper.state
+  here_state = ap (λ (f : Following). f.keeper.state) lines
 
-  mid_state : mid.state ≡ old.state
-  mid_state = ap (λ (f : Following). f.state) rest ∙ here_state
+  mid_state : mid.keeper.state ≡ old.keeper.state
+  mid_state = ap (λ (f : Following). f.keeper.state) rest ∙ here_state
 
   -- what the step makes of the mails that the follower has ahead
-  old_makes : (before after : List ℕ) → Makes st here.state.mailbox.next_uid p (mails_ahead here before) made (mails_ahead mid after)
-      → Makes st old.state.mailbox.next_uid p (mails_ahead old before) made (mails_ahead mid after)
-  old_makes before after h = subst (λ (f : Following). Makes st f.state.mailbox.next_uid p (mails_ahead f before) made (mails_ahead mid after)) lines h
+  old_makes : (before after : List ℕ) → Makes st here.keeper.state.mailbox.next_uid p (mails_ahead here before) made (mails_ahead mid after)
+      → Makes st old.keeper.state.mailbox.next_uid p (mails_ahead old before) made (mails_ahead mid after)
+  old_makes before after h = subst (λ (f : Following). Makes st f.keeper.state.mailbox.next_uid p (mails_ahead f before) made (mails_ahead mid after)) lines h
 
-  at_raw : (raw : List ℕ) → here.lines.place ≡ old.lines.place + length raw → p ≡ counted (at_line old.state.position raw)
-  at_raw raw e = place ∙ ap (λ place. record (counted old.state.position) { steps = place; lines = old.state.position.lines + 1 }) (e ∙ ap (λ place. place + length raw) (sym stands))
+  at_raw : (raw : List ℕ) → here.lines.place ≡ old.lines.place + length raw → p ≡ counted (at_line old.keeper.state.position raw)
+  at_raw raw e = place ∙ ap (λ place. record (counted old.keeper.state.position) { steps = place; lines = old.keeper.state.position.lines + 1 }) (e ∙ ap (λ place. place + length raw) (sym stands))
 
   stepped : (R : List ℕ → List ℕ → List ℕ → List ℕ → Type 0) → ((mails_before mails_after before after : List ℕ)
-      → Makes st old.state.mailbox.next_uid p (mails_ahead old mails_before) made (mails_ahead mid mails_after)
+      → Makes st old.keeper.state.mailbox.next_uid p (mails_ahead old mails_before) made (mails_ahead mid mails_after)
       → IsNextLine (lines_ahead old before) (taken_line.Step st) old.lines here.lines (lines_ahead here after) → R mails_before mails_after before after)
       → IfKnown l m (λ mails_before mails_after. IfKnown k n (λ before after. R mails_before mails_after before after))
   stepped R f = if_known l m _ _ (λ mails_before mails_after h.
       if_known k n _ (R mails_before mails_after) (λ before after g. f mails_before mails_after before after (old_makes mails_before mails_after h)
       (subst (λ a. IsNextLine (lines_ahead old before) a old.lines here.lines (lines_ahead here after)) is g)) next) makes
 
-  pub line_turns : (new : Following) (last : Option ℕ) → is_refused mid.state made.0 ≡ false → new.state ≡ after_fed mid.state (record { change = made.0; position = made.1 })
+  pub line_turns : (new : Following) (last : Option ℕ) → is_refused mid.keeper.state made.0 ≡ false → new.keeper.state ≡ after_fed mid.keeper.state (record { change = made.0; position = made.1 })
       → new.mbox ≡ mid.mbox → new.lines ≡ here.lines
       → IfKnown l m (λ mails_before mails_after. IfKnown k n (λ before after.
-      MakesFirst old.state (to_come last old mails_before (Some before)) new.state (to_come last new mails_after (Some after))))
+      MakesFirst old.keeper.state (to_come last old mails_before (Some before)) new.keeper.state (to_come last new mails_after (Some after))))
   line_turns new last room state same_mbox same_lines = stepped _ (λ mails_before mails_after before after h g.
-      subst (λ (r : Reading). MakesFirst old.state (to_come last old mails_before (Some before)) new.state
-      (lines_fed last new.state.mailbox.next_uid new.state.position (mails_from (mbox_position r) (r.held ++ mails_after)) (lines_ahead new after))) (sym same_mbox)
-      (subst (λ (r : StepsReading). MakesFirst old.state (to_come last old mails_before (Some before)) new.state
-      (lines_fed last new.state.mailbox.next_uid new.state.position (mails_ahead mid mails_after) (ended_lines (r.held ++ after)))) (sym same_lines)
+      subst (λ (r : Reading). MakesFirst old.keeper.state (to_come last old mails_before (Some before)) new.keeper.state
+      (lines_fed last new.keeper.state.mailbox.next_uid new.keeper.state.position (mails_from (mbox_position r) (r.held ++ mails_after)) (lines_ahead new after))) (sym same_mbox)
+      (subst (λ (r : StepsReading). MakesFirst old.keeper.state (to_come last old mails_before (Some before)) new.keeper.state
+      (lines_fed last new.keeper.state.mailbox.next_uid new.keeper.state.position (mails_ahead mid mails_after) (ended_lines (r.held ++ after)))) (sym same_lines)
       (by before after mails_before mails_after h (lines_ahead old before) g)))
     where
-      by : (before after mails_before mails_after : List ℕ) → Makes st old.state.mailbox.next_uid p (mails_ahead old mails_before) made (mails_ahead mid mails_after)
+      by : (before after mails_before mails_after : List ℕ) → Makes st old.keeper.state.mailbox.next_uid p (mails_ahead old mails_before) made (mails_ahead mid mails_after)
           → (ls : List (List ℕ)) → IsNextLine ls (taken_line.Step st) old.lines here.lines (lines_ahead here after)
-          → MakesFirst old.state (lines_fed last old.state.mailbox.next_uid old.state.position (mails_ahead old mails_before) ls) new.state
-          (lines_fed last new.state.mailbox.next_uid new.state.position (mails_ahead mid mails_after) (lines_ahead here after))
+          → MakesFirst old.keeper.state (lines_fed last old.keeper.state.mailbox.next_uid old.keeper.state.position (mails_ahead old mails_before) ls) new.keeper.state
+          (lines_fed last new.keeper.state.mailbox.next_uid new.keeper.state.position (mails_ahead mid mails_after) (lines_ahead here after))
       by before after mails_before mails_after h [] g = absurd g
       by before after mails_before mails_after h (raw ∷ ls) g =
-          line_goes last old.state new.state raw ls (lines_ahead here after) st (mails_ahead old mails_before) (mails_ahead mid mails_after) made.0 p made.1
+          line_goes last old.keeper.state new.keeper.state raw ls (lines_ahead here after) st (mails_ahead old mails_before) (mails_ahead mid mails_after) made.0 p made.1
           g.0 g.2 (at_raw raw g.1) h (ap (λ s. is_refused s made.0) (sym mid_state) ∙ room) (state ∙ ap (λ s. after_fed s (record { change = made.0; position = made.1 })) mid_state)
 
-  pub line_stops : (last : Option ℕ) (why : RunFault) → (why ≡ fault.Full) ⊎ (why ≡ fault.Memory) → (why ≡ fault.Full → is_refused mid.state made.0 ≡ true)
-      → IfKnown l m (λ mails_before mails_after. IfKnown k n (λ before after. StopsAt why old.state (to_come last old mails_before (Some before))))
+  pub line_stops : (last : Option ℕ) (why : RunFault) → (why ≡ fault.Full) ⊎ (why ≡ fault.Memory) → (why ≡ fault.Full → is_refused mid.keeper.state made.0 ≡ true)
+      → IfKnown l m (λ mails_before mails_after. IfKnown k n (λ before after. StopsAt why old.keeper.state (to_come last old mails_before (Some before))))
   line_stops last why (inr memory) refused = stepped _ (λ mails_before mails_after before after h g.
-      subst (λ why. StopsAt why old.state (to_come last old mails_before (Some before))) (sym memory) tt)
+      subst (λ why. StopsAt why old.keeper.state (to_come last old mails_before (Some before))) (sym memory) tt)
   line_stops last why (inl full) refused = stepped _ (λ mails_before mails_after before after h g.
-      subst (λ why. StopsAt why old.state (to_come last old mails_before (Some before))) (sym full) (by before after mails_before mails_after h (lines_ahead old before) g))
+      subst (λ why. StopsAt why old.keeper.state (to_come last old mails_before (Some before))) (sym full) (by before after mails_before mails_after h (lines_ahead old before) g))
     where
-      by : (before after mails_before mails_after : List ℕ) → Makes st old.state.mailbox.next_uid p (mails_ahead old mails_before) made (mails_ahead mid mails_after)
+      by : (before after mails_before mails_after : List ℕ) → Makes st old.keeper.state.mailbox.next_uid p (mails_ahead old mails_before) made (mails_ahead mid mails_after)
           → (ls : List (List ℕ)) → IsNextLine ls (taken_line.Step st) old.lines here.lines (lines_ahead here after)
-          → RefusesFirst old.state (lines_fed last old.state.mailbox.next_uid old.state.position (mails_ahead old mails_before) ls)
+          → RefusesFirst old.keeper.state (lines_fed last old.keeper.state.mailbox.next_uid old.keeper.state.position (mails_ahead old mails_before) ls)
       by before after mails_before mails_after h [] g = absurd g
       by before after mails_before mails_after h (raw ∷ ls) g =
-          line_full last old.state raw ls st (mails_ahead old mails_before) (mails_ahead mid mails_after) made.0 p made.1
+          line_full last old.keeper.state raw ls st (mails_ahead old mails_before) (mails_ahead mid mails_after) made.0 p made.1
           g.0 (at_raw raw g.1) h (ap (λ s. is_refused s made.0) (sym mid_state) ∙ refused full)
+
+-- ---- what a keeper refuses
+
+pub keep_cause : (why : KeepFault) → (why ≡ of_keeper.Full) ⊎ (why ≡ of_keeper.Memory) → (keep_fault why ≡ fault.Full) ⊎ (keep_fault why ≡ fault.Memory)
+keep_cause why (inl full) = inl (ap keep_fault full)
+keep_cause why (inr memory) = inr (ap keep_fault memory)
+
+pub keep_full : (why : KeepFault) → keep_fault why ≡ fault.Full → why ≡ of_keeper.Full
+keep_full of_keeper.Full is = refl
+keep_full of_keeper.Disk is = absurd cc
+keep_full (of_keeper.Damaged place at) is = absurd cc
+keep_full (of_keeper.OtherMe other) is = absurd cc
+keep_full of_keeper.Memory is = absurd cc
+
+pub keep_kind : (why : KeepFault) → IsKeepFault (keep_fault why)
+keep_kind of_keeper.Full = tt
+keep_kind of_keeper.Disk = tt
+keep_kind (of_keeper.Damaged place at) = tt
+keep_kind (of_keeper.OtherMe other) = tt
+keep_kind of_keeper.Memory = tt

@@ -9,29 +9,19 @@ use Rattle.steps_file.specs.declared.step.Step.TheVariants as step
 use Rattle.mailbox_model.specs.declared.change.Change.{Change}
 use Rattle.mailbox_model.specs.declared.change.Change.TheVariants.{Expunge, Seen, At}
 use Rattle.mailbox_model.specs.Lists.{Bytes}
-use Rattle.mailbox_model.specs.Mailbox.{Mailbox, empty_mailbox, after}
 use Rattle.state_image.specs.declared.position.Position.{Position}
+use Rattle.state_store.specs.States.{State}
+use Rattle.keeper.specs.Keeping.{after_change}
 use Rattle.follower.specs.Arrivals.{arrival_of}
 
--- ---- a state, and a change with the position after it
-
-pub record State : Type 0 where
-  pub mailbox : Mailbox
-  pub position : Position
-
-abbrev pub first_position : Position
-first_position = record { count = 0; mbox = 0; steps = 0; lines = 0 }
-
--- nothing was followed yet
-abbrev pub first_state : Bytes → State
-first_state me = record { mailbox = empty_mailbox me; position = first_position }
+-- ---- a change, with the position after it
 
 pub record Fed : Type 0 where
   pub change : Change
   pub position : Position
 
 abbrev pub after_fed : State → Fed → State
-after_fed s f = record { mailbox = after s.mailbox f.change; position = f.position }
+after_fed s f = after_change s f.change f.position
 
 -- how the changes end: with the files, or before a line of the steps file that can't be followed
 pub data Ending : Type 0 where

@@ -1,5 +1,5 @@
 -- A follower as contracts see it: where it stands in its files, and what its turns make of them.
-use Rattle.std.specs.Prelude.{◌≡◌, ◌≤◌, ◌<◌, ℕ, Bool, false, List, [], ◌∷◌, ◌++◌, Option, Some, None, option_map, Result, Ok, Err, ⊤}
+use Rattle.std.specs.Prelude.{◌≡◌, ◌≤◌, ◌<◌, ℕ, ◌+◌, Bool, List, [], ◌∷◌, ◌++◌, Option, Some, None, option_map, Result, Ok, Err, ⊤}
 use Rattle.kit.specs.Moments.{last_moment}
 use Rattle.mboxrd.specs.Mails.{Mail, mails_from}
 use Rattle.mboxrd.specs.declared.fault.BoxFault.{BoxFault}
@@ -20,25 +20,19 @@ use Rattle.follower.specs.declared.fault.RunFault.TheVariants as fault
 use Rattle.follower.specs.declared.follower.Turned.{Turned}
 use Rattle.follower.specs.declared.follower.Turned.TheVariants as turned
 use Rattle.state_image.specs.declared.position.Position.{Position}
+use Rattle.keeper.specs.Keeping.{Keeping, max_changes}
+use Rattle.keeper.specs.declared.fault.KeepFault.{KeepFault}
+use Rattle.keeper.specs.declared.fault.KeepFault.TheVariants as of_keeper
 use Rattle.follower.specs.Arrivals.{arrival_of}
-use Rattle.follower.specs.Feed.{Feed, State, at_mail, coming, last_fed}
-use Rattle.follower.specs.Going.{MakesFirst, StopsAt, Leads, LeadsToStop}
-use Rattle.follower.specs.Reached.{max_changes}
+use Rattle.follower.specs.Feed.{Feed, at_mail, coming, last_fed}
+use Rattle.follower.specs.Going.{MakesFirst, StopsAt}
 
--- the state that it has followed to, its two readers, and whether its engine is stale
+-- the mailbox with its kept state, the two readers of its files, and whether a call has failed
 pub record Following : Type 0 where
-  pub state : State
+  pub keeper : Keeping
   pub mbox : mbox.Reading
   pub lines : steps.Reading
-  pub stale : Bool
-
--- no call of it has failed, and it stands after the lines that it has followed
-pub record IsUsable (f : Following) : Type 0 where
-  pub current : f.stale ≡ false
-  pub mbox : f.mbox.refused ≡ false
-  pub lines : f.lines.refused ≡ false
-  pub place : f.state.position.steps ≡ f.lines.place
-  pub fewer : f.state.position.lines ≤ f.state.position.steps
+  pub failed : Bool
 
 -- the mails and the lines that come next, where its sources have this left
 abbrev pub mails_ahead : Following → Bytes → List Mail
@@ -47,7 +41,19 @@ mails_ahead f left = mails_from (mbox.position f.mbox) (f.mbox.held ++ left)
 abbrev pub lines_ahead : Following → Bytes → List (List ℕ)
 lines_ahead f left = ended_lines (f.lines.held ++ left)
 
+-- The changes that the files still give, where this is told of what the sources have left. The moment comes after the
+-- lines.
+abbrev pub to_come : Option ℕ → Following → Bytes → Option Bytes → Feed
+to_come last f mbox steps = coming last f.keeper.state (mails_ahead f mbox) (option_map (lines_ahead f) steps)
+
 -- ---- why a file is not followed
+
+abbrev pub keep_fault : KeepFault → RunFault
+keep_fault of_keeper.Disk = fault.Disk
+keep_fault (of_keeper.Damaged place at) = fault.Damaged place at
+keep_fault (of_keeper.OtherMe other) = fault.OtherMe other
+keep_fault of_keeper.Full = fault.Full
+keep_fault of_keeper.Memory = fault.Memory
 
 abbrev pub box_fault : BoxFault → RunFault
 box_fault of_box.Read = fault.Read Mbox
@@ -64,7 +70,7 @@ lines_fault of_lines.Endless = fault.Endless Steps
 abbrev pub ArrivesNext : Following → List Mail → Option Change → Following → List Mail → Type 0
 ArrivesNext old [] None new others = others ≡ []
 ArrivesNext old (mail ∷ mails) (Some change) new others =
-    (change ≡ arrival_of old.state.mailbox.next_uid mail) × (new.mbox.place ≡ mail.end) × (others ≡ mails)
+    (change ≡ arrival_of old.keeper.state.mailbox.next_uid mail) × (new.mbox.place ≡ mail.end) × (others ≡ mails)
 ArrivesNext old mails change new others = ⊥
 
 -- The change of a step, with the position after it, and the mails that are left then. The position after its line is
@@ -86,30 +92,56 @@ abbrev pub LacksMail : Step → ℕ → List Mail → RunFault → Type 0
 LacksMail s number mails (fault.Steps line) = (s ≡ step.Next) × (mails ≡ []) × (line ≡ number)
 LacksMail s number mails _ = ⊤
 
--- the count is higher after a change, and not too high
-abbrev pub Raises : Following → Following → Turned → Type 0
+-- one change more is made and pending
+pub record Adds (old new : Keeping) : Type 0 where
+  pub count : new.state.position.count ≡ old.state.position.count + 1
+  pub pending : new.pending.count ≡ old.pending.count + 1
+
+abbrev pub TurnAdds : Keeping → Keeping → Turned → Type 0
+TurnAdds old new turned.Applied = Adds old new
+TurnAdds old new turned.End = new ≡ old
+
+-- the count of changes is higher then, and not too high
+abbrev pub Raises : Keeping → Keeping → Turned → Type 0
 Raises old new turned.Applied = (old.state.position.count < new.state.position.count) × (new.state.position.count ≤ max_changes)
 Raises old new turned.End = ⊤
 
--- The changes that its files still give, where its sources have this left. The moment comes after the lines.
-abbrev pub to_come : Option ℕ → Following → Bytes → Option Bytes → Feed
-to_come last f mbox steps = coming last f.state (mails_ahead f mbox) (option_map (lines_ahead f) steps)
-
 -- A turn makes the next change, so the others are to come after it; at the end there is none.
 abbrev pub TurnGoes : Option ℕ → Result Turned RunFault → Following → Feed → Following → Feed → Type 0
-TurnGoes last (Ok turned.Applied) old before new after = MakesFirst old.state before new.state after
-TurnGoes last (Ok turned.End) old before new after = (before ≡ last_fed last old.state.position) × (new.state ≡ old.state)
-TurnGoes last (Err why) old before new after = StopsAt why old.state before
+TurnGoes last (Ok turned.Applied) old before new after = MakesFirst old.keeper.state before new.keeper.state after
+TurnGoes last (Ok turned.End) old before new after =
+    (before ≡ last_fed last old.keeper.state.position) × (new.keeper.state ≡ old.keeper.state)
+TurnGoes last (Err why) old before new after = StopsAt why old.keeper.state before
 
--- All turns together make all changes of the files.
-abbrev pub AllGo : Option ℕ → {T : Type 0} → Result T RunFault → Following → Feed → Following → Type 0
-AllGo last (Ok _) old before new = Leads old.state before new.state (last_fed last new.state.position)
-AllGo last (Err why) old before new = LeadsToStop why old.state before
+-- Why a call is refused, beside what the files and the kept state say: a fault of a device that rose, or the budget of an
+-- input that was taken.
+abbrev pub IsCause : (mbox_rose steps_rose shelf_rose : Type 0) → Following → RunFault → Type 0
+IsCause mbox_rose steps_rose shelf_rose new (fault.Read Mbox) = mbox_rose
+IsCause mbox_rose steps_rose shelf_rose new (fault.Read Steps) = steps_rose
+IsCause mbox_rose steps_rose shelf_rose new (fault.Endless Mbox) = new.mbox.taken ≡ new.mbox.budget
+IsCause mbox_rose steps_rose shelf_rose new (fault.Endless Steps) = new.lines.taken ≡ new.lines.budget
+IsCause mbox_rose steps_rose shelf_rose new fault.Disk = shelf_rose
+IsCause mbox_rose steps_rose shelf_rose new _ = ⊤
 
--- Why a turn is refused, beside what the files say: a fault of an input that rose, or its budget that was taken.
-abbrev pub IsTurnCause : (mbox_rose steps_rose : Type 0) → Following → RunFault → Type 0
-IsTurnCause mbox_rose steps_rose new (fault.Read Mbox) = mbox_rose
-IsTurnCause mbox_rose steps_rose new (fault.Read Steps) = steps_rose
-IsTurnCause mbox_rose steps_rose new (fault.Endless Mbox) = new.mbox.taken ≡ new.mbox.budget
-IsTurnCause mbox_rose steps_rose new (fault.Endless Steps) = new.lines.taken ≡ new.lines.budget
-IsTurnCause mbox_rose steps_rose new _ = ⊤
+-- a fault that a turn may have
+abbrev pub IsTurnFault : RunFault → Type 0
+IsTurnFault (fault.Read input) = ⊤
+IsTurnFault (fault.Endless input) = ⊤
+IsTurnFault (fault.Steps number) = ⊤
+IsTurnFault fault.Full = ⊤
+IsTurnFault fault.Memory = ⊤
+IsTurnFault _ = ⊥
+
+-- a fault that turns and commits may have
+abbrev pub IsFollowFault : RunFault → Type 0
+IsFollowFault fault.Disk = ⊤
+IsFollowFault why = IsTurnFault why
+
+-- a fault of what is kept, or of memory
+abbrev pub IsKeepFault : RunFault → Type 0
+IsKeepFault fault.Disk = ⊤
+IsKeepFault (fault.Damaged place at) = ⊤
+IsKeepFault (fault.OtherMe other) = ⊤
+IsKeepFault fault.Full = ⊤
+IsKeepFault fault.Memory = ⊤
+IsKeepFault _ = ⊥

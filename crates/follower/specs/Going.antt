@@ -2,8 +2,9 @@
 use Rattle.std.specs.Prelude.{◌≡◌, true, false, List, [], ◌∷◌, ⊤}
 use Rattle.follower.specs.declared.fault.RunFault.{RunFault}
 use Rattle.follower.specs.declared.fault.RunFault.TheVariants as fault
-use Rattle.follower.specs.Feed.{Fed, Feed, State, BadLine, after_fed, ends, fed_first}
-use Rattle.follower.specs.Reached.{is_refused}
+use Rattle.state_store.specs.States.{State}
+use Rattle.keeper.specs.Keeping.{is_refused}
+use Rattle.follower.specs.Feed.{Fed, Feed, BadLine, after_fed, ends, fed_first}
 
 -- ---- one change
 
@@ -48,10 +49,3 @@ pub record Leads (old : State) (feed : Feed) (new : State) (others : Feed) : Typ
   pub first : feed ≡ fed_all done others
   pub made : AreMade old done
   pub state : new ≡ after_feds old done
-
--- changes are made, and then no more, for this reason
-pub record LeadsToStop (why : RunFault) (old : State) (feed : Feed) : Type 0 where
-  pub last : State
-  pub others : Feed
-  pub leads : Leads old feed last others
-  pub stops : StopsAt why last others

@@ -4,3 +4,6 @@ pub mod Feed
 pub mod Reached
 pub mod Going
 pub mod Following
+pub mod Committing
+pub mod Opening
+pub mod Resuming

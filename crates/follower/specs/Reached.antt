@@ -1,16 +1,8 @@
 -- How far the changes of a run come.
-use Rattle.std.specs.Prelude.{ℕ, ◌^◌, ◌==◌, Bool, ◌||◌, if◌then◌else◌, List, [], ◌∷◌, Option, Some, None}
-use Rattle.mailbox_model.specs.Mailbox.{full}
-use Rattle.mailbox_model.specs.declared.change.Change.{Change}
-use Rattle.follower.specs.Feed.{Fed, Ending, End, BadLine, Feed, State, after_fed}
-
--- the most changes that are counted
-abbrev pub max_changes : ℕ
-max_changes = 2 ^ 62
-
--- the count has no room for a change, or the mailbox none
-abbrev pub is_refused : State → Change → Bool
-is_refused s change = (s.position.count == max_changes) || full s.mailbox change
+use Rattle.std.specs.Prelude.{ℕ, ◌+◌, if◌then◌else◌, List, [], ◌∷◌, Option, Some, None}
+use Rattle.state_store.specs.States.{State}
+use Rattle.keeper.specs.Keeping.{is_refused}
+use Rattle.follower.specs.Feed.{Fed, Ending, End, BadLine, Feed, after_fed}
 
 -- why the changes come to no end
 pub data Stop : Type 0 where
@@ -34,3 +26,8 @@ reach s (f ∷ fs) ending =
 
 abbrev pub reached : State → Feed → Reached
 reached s f = reach s f.changes f.ending
+
+-- how many of the changes are made, up to the first that is refused
+abbrev pub count_made : State → List Fed → ℕ
+count_made s [] = 0
+count_made s (f ∷ fs) = if is_refused s f.change then 0 else count_made (after_fed s f) fs + 1

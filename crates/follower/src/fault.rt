@@ -1,10 +1,12 @@
 //! Why the files are not followed further.
 ghost use Rattle.std.specs.Prelude.{◌≡◌};
-ghost use Rattle.follower.specs.Following.{box_fault, lines_fault};
+ghost use Rattle.follower.specs.Following.{box_fault, keep_fault, lines_fault};
 ghost use Rattle.follower.specs.declared.fault.RunFault.TheVariants as fault;
 
-use kit::Memory;
+use keeper::KeepFault;
+use kit::{Addr, Memory};
 use mboxrd::BoxFault;
+use outside::Place;
 use source_buffer::BufferFault;
 use thiserror::Error;
 
@@ -20,7 +22,7 @@ pub enum Input {
 }
 
 /// Why the files were not followed to their end.
-#[derive(Clone, Copy, Debug, PartialEq, Eq, Hash, Error)]
+#[derive(Debug, PartialEq, Eq, Error, Drop)]
 pub enum RunFault {
     /// The input failed.
     #[error("read fault: {0}")]
@@ -28,12 +30,24 @@ pub enum RunFault {
     /// As many bytes of the input were taken as may be, and one more was needed.
     #[error("endless {0}")]
     Endless(Input),
+    /// The input ends before the place up to which it was followed.
+    #[error("short {0}")]
+    Short(Input),
     /// The line of the steps file with this number, from 1, is no step, or takes the next mail where there is none.
     #[error("steps line {0}")]
     Steps(u64),
     /// The mailbox has no place for an arrival, or 2^62 changes were made.
     #[error("mailbox full")]
     Full,
+    /// The shelf failed.
+    #[error("disk fault")]
+    Disk,
+    /// What is kept in this place is damaged at this offset.
+    #[error("a state file is damaged at {1}")]
+    Damaged(Place, u64),
+    /// What is kept is the mailbox of this other address.
+    #[error("the state files keep the mailbox of another address")]
+    OtherMe(Addr),
     /// Memory ran out.
     #[error("out of memory")]
     Memory,
@@ -67,6 +81,20 @@ impl From<BufferFault> for RunFault {
         match fault {
             BufferFault::Read => RunFault::Read(Input::Steps),
             BufferFault::Endless => RunFault::Endless(Input::Steps),
+        }
+    }
+}
+
+impl From<KeepFault> for RunFault {
+    ghost from_gives = { λ fault why. why ≡ keep_fault fault };
+
+    fn from(fault: KeepFault) -> RunFault {
+        match fault {
+            KeepFault::Disk => RunFault::Disk,
+            KeepFault::Damaged(place, at) => RunFault::Damaged(place, at),
+            KeepFault::OtherMe(other) => RunFault::OtherMe(other),
+            KeepFault::Full => RunFault::Full,
+            KeepFault::Memory => RunFault::Memory,
         }
     }
 }

@@ -1,34 +1,43 @@
-//! The follower of a mailbox: it makes the changes of its files one after the other.
-ghost use Rattle.std.specs.Prelude.{◌≡◌, ◌≤◌, ◌+◌, ◌^◌, ◌∷◌, ◌⊎◌, ◌<◌, ◌≢◌, ℕ, List, [], Option, Some, None, false, true, IfOk, IfErr, IfSome, IsErrOf, OnOk, OnErr};
+//! The follower of a mailbox: it makes the changes of its files one after the other, and commits them.
+ghost use Rattle.std.specs.Prelude.{◌≡◌, ◌≤◌, ◌+◌, ◌^◌, ◌⊎◌, ◌<◌, ◌≢◌, ℕ, List, [], length, Option, Some, None, Ok, false, true, IfOk, IfErr, IfSome, IsErrOf, OnOk, OnErr, is_err};
 ghost use Rattle.kit.specs.Moments.{last_moment};
+ghost use Rattle.engine.specs.Costs.{load};
 ghost use Rattle.mailbox_model.specs.Mailbox.{IsValidChange};
 ghost use Rattle.mboxrd.specs.Reading as mbox_reading;
 ghost use Rattle.outside.specs.Causes.{Rose};
+ghost use Rattle.outside.specs.Crash.{RisesUpTo};
+ghost use Rattle.outside.specs.Moments.{LeavesOnly, Reached, WhereKnown, KnownThen};
+ghost use Rattle.outside.specs.Places.{Places};
 ghost use Rattle.source_buffer.specs.Known.{IfKnown};
+ghost use Rattle.state_image.specs.Images.{image, cards_in};
+ghost use Rattle.state_store.specs.Commits.{OldOrNew, is_due};
+ghost use Rattle.state_store.specs.Stands.{stands};
+ghost use Rattle.state_store.specs.Stored.{IsStored, SameFound};
 ghost use Rattle.steps_file.specs.Reading as steps_reading;
-ghost use Rattle.follower.specs.Feed.{after_fed, first_state, moment_fed};
-ghost use Rattle.follower.specs.Following.{ArrivesNext, IsTurnCause, IsUsable, LacksMail, Makes, MakesMoment, Raises, TurnGoes, to_come, mails_ahead};
-ghost use Rattle.follower.specs.Reached.{is_refused, max_changes};
+ghost use Rattle.keeper.specs.Keeping.{IsKept, IsWithin, is_refused};
+ghost use Rattle.keeper.specs.Opening.{AllFindSame};
+ghost use Rattle.keeper.specs.Pending.{none_pending};
+ghost use Rattle.follower.specs.Feed.{after_fed, moment_fed};
+ghost use Rattle.follower.specs.Following.{Adds, ArrivesNext, IsCause, IsKeepFault, IsTurnFault, LacksMail, Makes, MakesMoment, TurnAdds, TurnGoes, to_come, mails_ahead};
+ghost use Rattle.follower.specs.Opening.{OnOtherMe, Opens, StartsLines, StartsMbox};
 ghost use Rattle.follower.specs.declared.fault.Input.TheVariants.{Mbox};
 ghost use Rattle.follower.specs.declared.fault.RunFault.TheVariants as fault;
 ghost use Rattle.mailbox_model.specs.declared.change.Change.TheVariants.{At};
 
 use crate::arrival::arrival_of;
-use crate::fault::RunFault;
+use crate::fault::{Input, RunFault};
 use crate::position::{at_line, at_mail, counted};
-use engine::{ApplyFault, Engine};
-use kit::{Addr, Memory, Steps};
+use engine::Engine;
+use keeper::Keeper;
+use kit::{Addr, Steps};
 use mailbox_model::Change;
 use mboxrd::MboxReader;
-use outside::Source;
+use outside::{Shelf, Source};
 use state_image::Position;
 use std::alloc::Global;
 use std::marker::Model;
 use std::sync::ledger::Ledger;
 use steps_file::{Step, StepsReader, Taken};
-
-/// No more changes are counted.
-const MAX_CHANGES: u64 = 4_611_686_018_427_387_904;
 
 /// So many bytes of the mbox are taken at once, at most.
 const MBOX_CHUNK: usize = 65_536;
@@ -51,157 +60,233 @@ pub enum Turned {
     End,
 }
 
-/// Follows the files of a mailbox: each turn makes the next change. After a call that failed it may only be dropped.
+/// Follows the files of a mailbox and keeps what it followed: each turn makes the next change, and a commit makes the
+/// changes lasting. After a call that failed it may only be dropped.
 #[derive(Drop)]
 pub struct Follower {
     alloc: Global,
-    engine: Engine,
-    position: Position,
+    keeper: Keeper,
     mbox: MboxReader,
     lines: StepsReader,
+    failed: bool,
 }
 
 impl Model for Follower {
-    ghost use Rattle.std.specs.Prelude.{◌≤◌};
+    ghost use Rattle.std.specs.Prelude.{◌≡◌, false};
     ghost use Rattle.follower.specs.Following.{Following};
-    ghost use Rattle.follower.specs.Reached.{max_changes};
 
     ghost Value = { Following };
 
-    ghost view = { λ f. record {
-      state = record { mailbox = f.engine.mailbox; position = f.position };
-      mbox = f.mbox;
-      lines = f.lines;
-      stale = f.engine.stale;
-    } };
+    ghost view = { λ f. record { keeper = f.keeper; mbox = f.mbox; lines = f.lines; failed = f.failed } };
 
-    ghost invariant = { λ f. f.position.count ≤ max_changes };
+    ghost invariant = { λ f. f.failed ≡ false → (f.keeper.stale ≡ false) × (f.mbox.refused ≡ false) × (f.lines.refused ≡ false) };
 }
 
 impl Follower {
-    /// A follower that has made no change, at the start of both files. Takes memory; `Err` only when it runs out.
-    pub fn new(alloc: Global, me: Addr) -> Result<Follower, Memory>
-        ensures state { IfOk result (λ f. f.state ≡ first_state me) }
-        ensures usable { IfOk result IsUsable }
-        ensures mbox { IfOk result (λ f. (f.mbox.held ≡ []) × (f.mbox.taken ≡ 0) × (f.mbox.budget ≡ 2 ^ 36)) }
+    /// Opens what a shelf keeps, for an own address: a follower of the state that stands, with no change pending, whose
+    /// readers are at the start of their files. Where nothing is kept that is the empty mailbox of the address. Takes memory.
+    ///
+    /// `Disk` comes only at a fault of the shelf, `Damaged` exactly where what is kept is damaged, with the place and the
+    /// offset there, and `OtherMe` exactly where a whole state of another address is kept.
+    ///
+    /// - `opens`: what is opened is the state that stands in what the reads give at the start.
+    /// - `kept`, `stored`, `same`: after Ok the shelf is settled for the follower, and the same is found there.
+    /// - `any_moment`: a crash at any moment leaves that in which the same is found as in what it might have left at the start.
+    /// - `other`: after `OtherMe` each crash outcome has that in which the same is found as in what the reads gave at the start.
+    pub fn open<H: Shelf, L: Ledger>(
+        alloc: Global,
+        me: &Addr,
+        shelf: &mut H,
+        steps: &mut Steps<L>,
+    ) -> Result<Follower, RunFault>
+        ensures opens { WhereKnown (H.seen shelf.old) (λ places. Opens me.now result (stands me.now places)) }
+        ensures me { IfOk result (λ f. f.keeper.state.mailbox.me ≡ me.now) }
+        ensures usable { IfOk result (λ f. f.failed ≡ false) }
+        ensures pending { IfOk result (λ f. f.keeper.pending ≡ none_pending) }
+        ensures kept { IfOk result (λ f. WhereKnown (H.seen shelf.new) (IsKept f.keeper)) }
+        ensures stored { IfOk result (λ f. WhereKnown (H.seen shelf.new) (IsStored f.keeper.store (H.may_leave shelf.new))) }
+        ensures mbox { IfOk result (λ f. (f.mbox.held ≡ []) × (f.mbox.taken ≡ 0) × (f.mbox.budget ≡ 2 ^ 36) × (f.mbox.at_separator ≡ false)) }
         ensures lines { IfOk result (λ f. (f.lines.held ≡ []) × (f.lines.taken ≡ 0) × (f.lines.budget ≡ 2 ^ 32)) }
+        ensures same { OnOk result (KnownThen (H.seen shelf.old) (H.seen shelf.new) SameFound) }
+        ensures any_moment { WhereKnown (H.seen shelf.old) (λ _. LeavesOnly H.moment H.left_since shelf.old shelf.new
+            (Reached (H.may_leave shelf.old) SameFound)) }
+        ensures other { OnOtherMe result (WhereKnown (H.seen shelf.old) (AllFindSame (H.may_leave shelf.new))) }
+        ensures written { H.written shelf.new ≡ H.written shelf.old }
+        ensures load { IfOk result (λ f. steps.new ≤ steps.old + load f.keeper.state.mailbox) }
+        ensures later { H.faults shelf.old ≤ H.faults shelf.new }
+        ensures cause { IsErrOf result RunFault.Disk → Rose (H.faults shelf.old) (H.faults shelf.new) }
+        ensures possible { IfErr result IsKeepFault }
     {
+        let keeper = Keeper::open(alloc, me, shelf, steps)?;
         Ok(Follower {
             alloc,
-            engine: Engine::new(alloc, me),
-            position: Position {
-                count: 0,
-                mbox: 0,
-                steps: 0,
-                lines: 0,
-            },
+            keeper,
             mbox: MboxReader::new(alloc, MBOX_CHUNK, MBOX_BUDGET)?,
             lines: StepsReader::new(alloc, STEPS_CHUNK, STEPS_BUDGET)?,
+            failed: false,
         })
     }
 
     /// The engine, over the mailbox that was followed so far. Takes no memory.
     pub fn engine(&self) -> &Engine
-        ensures mailbox { result.now.mailbox ≡ self.now.state.mailbox }
-        ensures stale { result.now.stale ≡ self.now.stale }
+        ensures mailbox { result.now.mailbox ≡ self.now.keeper.state.mailbox }
+        ensures stale { result.now.stale ≡ self.now.keeper.stale }
+        ensures current { self.now.failed ≡ false → self.now.keeper.stale ≡ false }
     {
-        &self.engine
+        self.keeper.engine()
     }
 
-    /// Makes a change, after which this is the position. Takes memory.
-    ///
-    /// - `made`: at `Ok` it had room, and the readers stay where they are.
-    /// - `full`: `Full` comes only where it has none.
-    fn apply<L: Ledger>(
-        &mut self,
-        change: Change,
-        position: Position,
-        steps: &mut Steps<L>,
-    ) -> Result<(), RunFault>
-        requires current { self.old.stale ≡ false }
-        requires valid { IsValidChange change }
-        requires count { position.count ≡ self.old.state.position.count + 1 }
-        ensures made { OnOk result (is_refused self.old.state change ≡ false) }
-        ensures state { OnOk result (self.new.state ≡ after_fed self.old.state (record { change = change; position = position })) }
-        ensures current { OnOk result (self.new.stale ≡ false) }
-        ensures full { IsErrOf result RunFault.Full → is_refused self.old.state change ≡ true }
-        ensures cause { IfErr result (λ why. (why ≡ fault.Full) ⊎ (why ≡ fault.Memory)) }
-        ensures mbox { self.new.mbox ≡ self.old.mbox }
-        ensures lines { self.new.lines ≡ self.old.lines }
-        ensures raised { OnOk result (self.old.state.position.count < self.new.state.position.count) }
+    /// The position that was followed to. Takes no memory.
+    pub fn position(&self) -> Position
+        ensures { result ≡ self.now.keeper.state.position }
     {
-        if self.position.count == MAX_CHANGES {
-            return Err(RunFault::Full);
+        self.keeper.position()
+    }
+
+    /// How many changes are pending, from 0 to 256. Takes no memory.
+    pub fn pending(&self) -> u32
+        ensures { result ≡ self.now.keeper.pending.count }
+    {
+        u32::from(self.keeper.pending())
+    }
+
+    /// Whether a call has failed, after which the follower may only be dropped. Takes no memory.
+    pub fn is_failed(&self) -> bool
+        ensures { result ≡ self.now.failed }
+    {
+        self.failed
+    }
+
+    /// Passes over the mbox up to the place that was followed to. `Short(Mbox)` comes exactly where the mbox ends before
+    /// it. Takes no memory.
+    ///
+    /// - `starts`: where the mbox tells its bytes, the mails after that place come next.
+    pub fn start_mbox<M: Source>(&mut self, mbox: &mut M) -> Result<(), RunFault>
+        requires usable { self.old.failed ≡ false }
+        requires first { (self.old.mbox.held ≡ []) × (self.old.mbox.taken ≡ 0) × (self.old.mbox.at_separator ≡ false) }
+        ensures starts { IfKnown (M.left mbox.old) (M.left mbox.new) (λ before after. StartsMbox result self.old before self.new after) }
+        ensures keeper { self.new.keeper ≡ self.old.keeper }
+        ensures lines { self.new.lines ≡ self.old.lines }
+        ensures failed { self.new.failed ≡ is_err result }
+        ensures later { M.faults mbox.old ≤ M.faults mbox.new }
+        ensures cause { IfErr result (IsCause (Rose (M.faults mbox.old) (M.faults mbox.new)) ⊥ ⊥ self.new) }
+        ensures took { (bytes : List ℕ) × mbox_reading.Takes (M.left mbox.old) (M.left mbox.new) self.old.mbox self.new.mbox bytes }
+    {
+        self.failed = true;
+        let place = self.keeper.position().mbox;
+        if self.mbox.skip(mbox, place)? < place {
+            return Err(RunFault::Short(Input::Mbox));
         }
-        match self.engine.apply(change, steps) {
-            Ok(()) => {
-                self.position = position;
-                Ok(())
-            }
-            Err(ApplyFault::Full) => Err(RunFault::Full),
-            Err(ApplyFault::Memory) => Err(RunFault::Memory),
-            Err(ApplyFault::Stale) => unreachable!(),
+        self.failed = false;
+        Ok(())
+    }
+
+    /// Passes over the steps file up to the place that was followed to. `Short(Steps)` comes exactly where the file ends
+    /// before it. Takes no memory.
+    ///
+    /// - `starts`: where the steps file tells its bytes, the lines after that place come next.
+    pub fn start_lines<S: Source>(&mut self, steps_file: &mut S) -> Result<(), RunFault>
+        requires usable { self.old.failed ≡ false }
+        requires first { (self.old.lines.held ≡ []) × (self.old.lines.taken ≡ 0) }
+        ensures starts { IfKnown (S.left steps_file.old) (S.left steps_file.new) (λ before after. StartsLines result self.old before self.new after) }
+        ensures place { OnOk result (self.new.lines.place ≡ self.old.keeper.state.position.steps) }
+        ensures keeper { self.new.keeper ≡ self.old.keeper }
+        ensures mbox { self.new.mbox ≡ self.old.mbox }
+        ensures failed { self.new.failed ≡ is_err result }
+        ensures later { S.faults steps_file.old ≤ S.faults steps_file.new }
+        ensures cause { IfErr result (IsCause ⊥ (Rose (S.faults steps_file.old) (S.faults steps_file.new)) ⊥ self.new) }
+        ensures took { (bytes : List ℕ) × steps_reading.Takes (S.left steps_file.old) (S.left steps_file.new) self.old.lines self.new.lines bytes }
+    {
+        self.failed = true;
+        let place = self.keeper.position().steps;
+        if self.lines.skip(steps_file, place)? < place {
+            return Err(RunFault::Short(Input::Steps));
         }
+        self.failed = false;
+        Ok(())
     }
 
     /// The clock comes to a moment, in seconds since 1970-01-01 00:00:00 UTC. `Full` comes exactly where 2^62 changes were
     /// made. Takes memory.
     pub fn at<L: Ledger>(&mut self, moment: u64, steps: &mut Steps<L>) -> Result<(), RunFault>
-        requires usable { IsUsable self.old }
+        requires usable { self.old.failed ≡ false }
+        requires few { self.old.keeper.pending.count < 256 }
         requires moment { moment ≤ last_moment }
-        ensures made { OnOk result (is_refused self.old.state (At moment) ≡ false) }
-        ensures state { OnOk result (self.new.state ≡ after_fed self.old.state (moment_fed self.old.state.position moment)) }
-        ensures usable { OnOk result (IsUsable self.new) }
-        ensures full { IsErrOf result RunFault.Full → is_refused self.old.state (At moment) ≡ true }
+        ensures room { OnOk result (is_refused self.old.keeper.state (At moment) ≡ false) }
+        ensures state { OnOk result (self.new.keeper.state ≡ after_fed self.old.keeper.state (moment_fed self.old.keeper.state.position moment)) }
+        ensures adds { OnOk result (Adds self.old.keeper self.new.keeper) }
+        ensures kept { OnOk result ((places : Places) → IsKept self.old.keeper places → IsKept self.new.keeper places) }
+        ensures store { self.new.keeper.store ≡ self.old.keeper.store }
+        ensures failed { self.new.failed ≡ is_err result }
+        ensures full { IsErrOf result RunFault.Full → is_refused self.old.keeper.state (At moment) ≡ true }
         ensures cause { IfErr result (λ why. (why ≡ fault.Full) ⊎ (why ≡ fault.Memory)) }
         ensures mbox { self.new.mbox ≡ self.old.mbox }
         ensures lines { self.new.lines ≡ self.old.lines }
+        ensures cost { steps.new ≡ steps.old }
     {
-        self.apply(Change::At(moment), counted(self.position), steps)
+        self.failed = true;
+        let position = counted(self.keeper.position());
+        self.keeper.apply(Change::At(moment), position, steps)?;
+        self.failed = false;
+        Ok(())
     }
 
     /// The arrival of the next mail of the mbox, if there is one.
     ///
     /// - `next`: where the source tells its bytes, it is the one that they give.
-    /// - `state`: nothing changes but the reader of the mbox.
+    /// - `rest`: nothing changes but the reader of the mbox.
     fn next_arrival<M: Source>(&mut self, mbox: &mut M) -> Result<Option<Change>, RunFault>
         requires usable { self.old.mbox.refused ≡ false }
+        requires failed { self.old.failed ≡ true }
         ensures next { IfOk result (λ change. IfKnown (M.left mbox.old) (M.left mbox.new) (λ before after.
             ArrivesNext self.old (mails_ahead self.old before) change self.new (mails_ahead self.new after))) }
         ensures valid { IfOk result (λ change. IfSome change IsValidChange) }
         ensures usable { OnOk result (self.new.mbox.refused ≡ false) }
         ensures later { M.faults mbox.old ≤ M.faults mbox.new }
-        ensures cause { IfErr result (IsTurnCause (Rose (M.faults mbox.old) (M.faults mbox.new)) ⊥ self.new) }
+        ensures cause { IfErr result (IsCause (Rose (M.faults mbox.old) (M.faults mbox.new)) ⊥ ⊥ self.new) }
         ensures possible { IfErr result (λ why. (why ≡ fault.Read Mbox) ⊎ (why ≡ fault.Endless Mbox) ⊎ (why ≡ fault.Memory)) }
         ensures took { (bytes : List ℕ) × mbox_reading.Takes (M.left mbox.old) (M.left mbox.new) self.old.mbox self.new.mbox bytes }
         ensures rest { self.new ≡ record self.old { mbox = self.new.mbox } }
     {
-        let uid = self.engine.mailbox().next_uid();
+        let uid = self.keeper.engine().mailbox().next_uid();
         let taken = self.mbox.next(self.alloc, mbox)?;
         Ok(arrival_of(self.alloc, uid, taken)?)
     }
 
     /// Follows the next mail of the mbox, if there is one. Takes memory.
+    ///
+    /// - `goes`: where the mbox tells its bytes, the turn makes the next change that they give, or the reason why not is theirs.
+    /// - `kept`, `store`: the shelf that was settled for the follower is so still.
     pub fn turn_mail<M: Source, L: Ledger>(
         &mut self,
         mbox: &mut M,
         steps: &mut Steps<L>,
     ) -> Result<Turned, RunFault>
-        requires usable { IsUsable self.old }
+        requires usable { self.old.failed ≡ false }
+        requires few { self.old.keeper.pending.count < 256 }
         ensures goes { IfKnown (M.left mbox.old) (M.left mbox.new) (λ before after.
             TurnGoes None result self.old (to_come None self.old before None) self.new (to_come None self.new after None)) }
-        ensures usable { OnOk result (IsUsable self.new) }
-        ensures raised { IfOk result (Raises self.old self.new) }
+        ensures adds { IfOk result (TurnAdds self.old.keeper self.new.keeper) }
+        ensures kept { OnOk result ((places : Places) → IsKept self.old.keeper places → IsKept self.new.keeper places) }
+        ensures store { self.new.keeper.store ≡ self.old.keeper.store }
+        ensures within { OnOk result (IsWithin self.new.keeper.state.position) }
+        ensures failed { self.new.failed ≡ is_err result }
         ensures later { M.faults mbox.old ≤ M.faults mbox.new }
-        ensures cause { IfErr result (IsTurnCause (Rose (M.faults mbox.old) (M.faults mbox.new)) ⊥ self.new) }
+        ensures cause { IfErr result (IsCause (Rose (M.faults mbox.old) (M.faults mbox.new)) ⊥ ⊥ self.new) }
+        ensures possible { IfErr result IsTurnFault }
         ensures took { (bytes : List ℕ) × mbox_reading.Takes (M.left mbox.old) (M.left mbox.new) self.old.mbox self.new.mbox bytes }
         ensures lines { self.new.lines ≡ self.old.lines }
+        ensures cost { steps.new ≡ steps.old }
     {
+        self.failed = true;
+        let position = self.keeper.position();
         let Some(change) = self.next_arrival(mbox)? else {
+            self.failed = false;
             return Ok(Turned::End);
         };
-        let position = at_mail(counted(self.position), self.mbox.place());
-        self.apply(change, position, steps)?;
+        let position = at_mail(counted(position), self.mbox.place());
+        self.keeper.apply(change, position, steps)?;
+        self.failed = false;
         Ok(Turned::Applied)
     }
 
@@ -216,17 +301,19 @@ impl Follower {
         mbox: &mut M,
     ) -> Result<(Change, Position), RunFault>
         requires usable { self.old.mbox.refused ≡ false }
+        requires failed { self.old.failed ≡ true }
         requires moment { MakesMoment step }
         ensures makes { IfOk result (λ made. IfKnown (M.left mbox.old) (M.left mbox.new) (λ before after.
-            Makes step self.old.state.mailbox.next_uid position (mails_ahead self.old before) made (mails_ahead self.new after))) }
+            Makes step self.old.keeper.state.mailbox.next_uid position (mails_ahead self.old before) made (mails_ahead self.new after))) }
         ensures valid { IfOk result (λ made. IsValidChange made.0) }
         ensures count { IfOk result (λ made. made.1 ≡ record position { mbox = made.1.mbox }) }
         ensures usable { OnOk result (self.new.mbox.refused ≡ false) }
         ensures bare { IfErr result (λ why. IfKnown (M.left mbox.old) (M.left mbox.new) (λ before after.
             LacksMail step position.lines (mails_ahead self.old before) why)) }
         ensures later { M.faults mbox.old ≤ M.faults mbox.new }
-        ensures cause { IfErr result (IsTurnCause (Rose (M.faults mbox.old) (M.faults mbox.new)) ⊥ self.new) }
-        ensures possible { IfErr result (λ why. why ≢ fault.Full) }
+        ensures cause { IfErr result (IsCause (Rose (M.faults mbox.old) (M.faults mbox.new)) ⊥ ⊥ self.new) }
+        ensures possible { IfErr result IsTurnFault }
+        ensures not_full { IfErr result (λ why. why ≢ fault.Full) }
         ensures took { (bytes : List ℕ) × mbox_reading.Takes (M.left mbox.old) (M.left mbox.new) self.old.mbox self.new.mbox bytes }
         ensures rest { self.new ≡ record self.old { mbox = self.new.mbox } }
     {
@@ -245,37 +332,97 @@ impl Follower {
     }
 
     /// Follows the next line of the steps file, if there is one. Takes memory.
+    ///
+    /// - `goes`: where both tell their bytes, the turn makes the next change that they give, or the reason why not is theirs.
+    /// - `kept`, `store`: the shelf that was settled for the follower is so still.
     pub fn turn_line<M: Source, S: Source, L: Ledger>(
         &mut self,
         mbox: &mut M,
         steps_file: &mut S,
         steps: &mut Steps<L>,
     ) -> Result<Turned, RunFault>
-        requires usable { IsUsable self.old }
+        requires usable { self.old.failed ≡ false }
+        requires few { self.old.keeper.pending.count < 256 }
+        requires place { self.old.lines.place ≡ self.old.keeper.state.position.steps }
         ensures goes { (last : Option ℕ) → IfKnown (M.left mbox.old) (M.left mbox.new) (λ mbox_before mbox_after.
             IfKnown (S.left steps_file.old) (S.left steps_file.new) (λ steps_before steps_after.
             TurnGoes last result self.old (to_come last self.old mbox_before (Some steps_before)) self.new
             (to_come last self.new mbox_after (Some steps_after)))) }
-        ensures usable { OnOk result (IsUsable self.new) }
-        ensures raised { IfOk result (Raises self.old self.new) }
+        ensures adds { IfOk result (TurnAdds self.old.keeper self.new.keeper) }
+        ensures kept { OnOk result ((places : Places) → IsKept self.old.keeper places → IsKept self.new.keeper places) }
+        ensures store { self.new.keeper.store ≡ self.old.keeper.store }
+        ensures within { OnOk result (IsWithin self.new.keeper.state.position) }
+        ensures place { OnOk result (self.new.lines.place ≡ self.new.keeper.state.position.steps) }
+        ensures failed { self.new.failed ≡ is_err result }
         ensures mbox_later { M.faults mbox.old ≤ M.faults mbox.new }
         ensures steps_later { S.faults steps_file.old ≤ S.faults steps_file.new }
-        ensures cause { IfErr result (IsTurnCause (Rose (M.faults mbox.old) (M.faults mbox.new))
-            (Rose (S.faults steps_file.old) (S.faults steps_file.new)) self.new) }
+        ensures cause { IfErr result (IsCause (Rose (M.faults mbox.old) (M.faults mbox.new))
+            (Rose (S.faults steps_file.old) (S.faults steps_file.new)) ⊥ self.new) }
+        ensures possible { IfErr result IsTurnFault }
         ensures mbox_took { (bytes : List ℕ) × mbox_reading.Takes (M.left mbox.old) (M.left mbox.new) self.old.mbox self.new.mbox bytes }
         ensures steps_took { (bytes : List ℕ) × steps_reading.Takes (S.left steps_file.old) (S.left steps_file.new) self.old.lines self.new.lines bytes }
+        ensures cost { steps.new ≡ steps.old }
     {
+        self.failed = true;
+        let position = self.keeper.position();
         let step = match self.lines.next(steps_file)? {
             Taken::Step(step) => step,
-            Taken::NoStep => {
-                let position = at_line(self.position, self.lines.place());
-                return Err(RunFault::Steps(position.lines));
+            Taken::NoStep => return Err(RunFault::Steps(
+                at_line(position, self.lines.place()).lines,
+            )),
+            Taken::End => {
+                self.failed = false;
+                return Ok(Turned::End);
             }
-            Taken::End => return Ok(Turned::End),
         };
-        let position = at_line(counted(self.position), self.lines.place());
+        let position = at_line(counted(position), self.lines.place());
         let (change, position) = self.change_of(step, position, mbox)?;
-        self.apply(change, position, steps)?;
+        self.keeper.apply(change, position, steps)?;
+        self.failed = false;
         Ok(Turned::Applied)
+    }
+
+    /// Makes the pending changes lasting. Where nothing is pending nothing is done. Takes its memory before it writes:
+    /// `Memory` leaves the shelf as it was.
+    ///
+    /// `Disk` comes only at a fault of the shelf.
+    ///
+    /// - `any_moment`: a crash at any moment leaves the state of before or that of the follower.
+    /// - `lasting`, `kept`, `stored`, `pending`: after Ok the follower's state stands, it alone is left, and nothing is pending.
+    /// - `appended`, `saved`: no more is written than 40 bytes beside the changes, or 18 beside the image.
+    /// - `most`: an image reads each kept card once, by the count of steps.
+    pub fn commit<H: Shelf, L: Ledger>(
+        &mut self,
+        shelf: &mut H,
+        steps: &mut Steps<L>,
+    ) -> Result<(), RunFault>
+        requires usable { self.old.failed ≡ false }
+        requires kept { WhereKnown (H.seen shelf.old) (IsKept self.old.keeper) }
+        requires stored { WhereKnown (H.seen shelf.old) (IsStored self.old.keeper.store (H.may_leave shelf.old)) }
+        ensures any_moment { WhereKnown (H.seen shelf.old) (λ _. LeavesOnly H.moment H.left_since shelf.old shelf.new
+            (Reached (H.may_leave shelf.old) (OldOrNew self.old.keeper.state.mailbox.me self.old.keeper.state))) }
+        ensures lasting { OnOk result (KnownThen (H.seen shelf.old) (H.seen shelf.new) (λ _ after.
+            stands self.old.keeper.state.mailbox.me after ≡ Ok self.old.keeper.state)) }
+        ensures kept { OnOk result (WhereKnown (H.seen shelf.new) (IsKept self.new.keeper)) }
+        ensures stored { OnOk result (WhereKnown (H.seen shelf.new) (IsStored self.new.keeper.store (H.may_leave shelf.new))) }
+        ensures pending { OnOk result (self.new.keeper.pending ≡ none_pending) }
+        ensures state { self.new.keeper.state ≡ self.old.keeper.state }
+        ensures mbox { self.new.mbox ≡ self.old.mbox }
+        ensures lines { self.new.lines ≡ self.old.lines }
+        ensures failed { self.new.failed ≡ is_err result }
+        ensures untouched { IsErrOf result RunFault.Memory → shelf.new ≡ shelf.old }
+        ensures appended { is_due self.old.keeper.store (39 + length self.old.keeper.pending.bytes) ≡ false
+            → RisesUpTo (40 + length self.old.keeper.pending.bytes) (H.written shelf.old) (H.written shelf.new) × (steps.new ≡ steps.old) }
+        ensures saved { is_due self.old.keeper.store (39 + length self.old.keeper.pending.bytes) ≡ true
+            → RisesUpTo (length (image self.old.keeper.state.mailbox self.old.keeper.state.position) + 18) (H.written shelf.old) (H.written shelf.new) }
+        ensures most { steps.new ≤ steps.old + cards_in self.old.keeper.state.mailbox }
+        ensures later { H.faults shelf.old ≤ H.faults shelf.new }
+        ensures cause { IsErrOf result RunFault.Disk → Rose (H.faults shelf.old) (H.faults shelf.new) }
+        ensures possible { IfErr result (λ why. (why ≡ fault.Disk) ⊎ (why ≡ fault.Memory)) }
+    {
+        self.failed = true;
+        self.keeper.commit(shelf, steps)?;
+        self.failed = false;
+        Ok(())
     }
 }

@@ -5,11 +5,12 @@ ghost use Rattle.outside.specs.Places.{Places};
 ghost use Rattle.state_store.specs.Stored.{IsStored};
 ghost use Rattle.keeper.specs.Keeping.{IsKept};
 
+use crate::slots::{CRASHES, with_byte};
 use keeper::{KeepFault, Keeper};
 use kit::{Addr, Steps};
 use mailbox_model::Change;
 use outside::{Place, Shelf};
-use shelves::{Crash, MemoryShelf};
+use shelves::MemoryShelf;
 use state_image::Position;
 use std::alloc::Global;
 use std::marker::Brand;
@@ -219,8 +220,6 @@ fn no_more_than_256_changes_wait(rt: HostRuntime) -> Result<(), Fail> {
     Ok(())
 }
 
-const CRASHES: [Crash; 3] = [Crash::Old, Crash::New, Crash::Ones];
-
 /// The count of the next commit of those of one change, two and one.
 fn next_count(count: u64) -> u64 {
     match count {
@@ -275,16 +274,6 @@ fn where_nothing_is_kept_any_address_is_opened(rt: HostRuntime) -> Result<(), Fa
         assert_eq!(rt; find(alloc, me, &mut shelf)?, (0, Ended::Well));
     }
     Ok(())
-}
-
-/// Bytes of which one is another.
-fn with_byte(alloc: Global, bytes: &[u8], offset: usize, byte: u8) -> Result<Vec<u8>, Fail> {
-    let mut bytes = bytes.to_vec(alloc)?;
-    match bytes.get_mut(offset) {
-        Some(place) => *place = byte,
-        None => return Err(Fail::from("too far")),
-    }
-    Ok(bytes)
 }
 
 #[test]

@@ -1,4 +1,5 @@
-//! Tests of the devices, of images, of slots, of the tail, of the keeper and of whole runs. It has no code of its own.
+//! Tests of the devices, of images, of slots, of the tail, of the keeper, of whole runs, and of runs that go on from what
+//! is kept. It has no code of its own.
 #![tactic(auto)]
 
 #[cfg(test)]
@@ -12,6 +13,8 @@ mod full_tail;
 #[cfg(test)]
 mod images;
 #[cfg(test)]
+mod kept;
+#[cfg(test)]
 mod real_files;
 #[cfg(test)]
 mod rows;
@@ -21,6 +24,8 @@ mod runs;
 mod slots;
 #[cfg(test)]
 mod steps;
+#[cfg(test)]
+mod stopped;
 #[cfg(test)]
 mod tail;
 #[cfg(test)]

@@ -1,12 +1,13 @@
 //! Whole runs on the worked mails: mails and steps, what is asked after them, and what is put.
-use crate::runs::{NEVER, ended, source};
+use crate::runs::{empty_shelf, ended_over};
 use follow::Status;
 use std::alloc::Global;
+use std::process::Abort;
 use std::test::Fail;
 use worked_mails::*;
 
 /// Mails of an mbox, a steps file, the words of the command, and what is put.
-type Row = (
+pub type Row = (
     &'static [&'static str],
     Option<&'static str>,
     &'static [&'static str],
@@ -38,10 +39,25 @@ pub const BOB: &str = "single:bob@x.org | Bob | fresh 1 | 2024-05-01 10:00 | Hi\
 /// The line of a thread whose parent is missing.
 const TRIP: &str = "thread:g1@x.org | Re: Trip | fresh 2 | 2024-05-01 09:40 | Good\n";
 
-/// Chats that mails which come late join or change.
-const LATE: [Row; 9] = [
+/// Chats that mails which come late change, or don't.
+const LATE: [Row; 4] = [
     (&[M1], None, AT_NOON, BOB),
     (&[], None, AT_NOON, ""),
+    (
+        &[E1, M1, E2],
+        Some("at 1714564800\nnext\nat 1714564801\nnext\nnext\n"),
+        WITH_BOB,
+        "chat single:bob@x.org\n\
+         name Bob\n\
+         members me@x.org, bob@x.org\n\
+         timer 0\n\
+         #2 2024-05-01 10:00 bob@x.org new: Hello [edited]\n",
+    ),
+    (&[M1, X1, X2], None, AT_NOON, BOB),
+];
+
+/// A parent that comes late, and goes again.
+pub const PARENT: [Row; 3] = [
     (
         &[R1, R2, G1],
         Some("at 1714564800\nnext\nnext\n"),
@@ -60,17 +76,10 @@ const LATE: [Row; 9] = [
         LIST,
         TRIP,
     ),
-    (
-        &[E1, M1, E2],
-        Some("at 1714564800\nnext\nat 1714564801\nnext\nnext\n"),
-        WITH_BOB,
-        "chat single:bob@x.org\n\
-         name Bob\n\
-         members me@x.org, bob@x.org\n\
-         timer 0\n\
-         #2 2024-05-01 10:00 bob@x.org new: Hello [edited]\n",
-    ),
-    (&[M1, X1, X2], None, AT_NOON, BOB),
+];
+
+/// A second copy that is seen, and goes again.
+pub const COPY: [Row; 2] = [
     (
         &[M1, M2],
         Some("at 1714564800\nnext\nnext\nseen 2\n"),
@@ -85,8 +94,8 @@ const LATE: [Row; 9] = [
     ),
 ];
 
-/// Groups: who is in, and how they are called.
-const GROUPS: [Row; 4] = [
+/// A group whose members change, and a mail of it that is older than the others and comes last.
+pub const MEMBERS: [Row; 2] = [
     (
         &[G1, G2, G3],
         None,
@@ -112,6 +121,10 @@ const GROUPS: [Row; 4] = [
          #2 2024-05-01 09:10 ann@x.org new: Cid is here\n\
          #3 2024-05-01 09:20 ann@x.org new: Bob left\n",
     ),
+];
+
+/// Who is not made a member of a group, and who can't rename it.
+const OUTSIDERS: [Row; 2] = [
     (
         &[G1, R3],
         None,
@@ -137,8 +150,8 @@ const GROUPS: [Row; 4] = [
     ),
 ];
 
-/// Timers, receipts, updates, and a mail without a sender.
-const SINGLE: [Row; 6] = [
+/// A mail that vanishes after it is seen.
+pub const TIMER: [Row; 2] = [
     (
         &[T1],
         Some("at 900\nnext\nat 1000\nseen 1\nat 1059\n"),
@@ -155,6 +168,10 @@ const SINGLE: [Row; 6] = [
         LIST,
         "single:bob@x.org | bob@x.org | fresh 0 | - | -\n",
     ),
+];
+
+/// A mail that is not seen, receipts, updates, and a mail without a sender.
+const SINGLE: [Row; 4] = [
     (
         &[T1],
         Some("at 900\nnext\nat 9999\n"),
@@ -206,7 +223,8 @@ const SINGLE: [Row; 6] = [
 /// Three chats.
 const THREE: &[&str] = &[H1, H2, H3, G5, C1];
 
-const CHATS: [Row; 5] = [
+/// Their list, their pages, and the contacts.
+pub const CHATS: [Row; 5] = [
     (
         THREE,
         None,
@@ -291,59 +309,47 @@ pub fn mbox_of(alloc: Global, mails: &[&str]) -> Result<String, Fail> {
     Ok(mbox)
 }
 
-/// How a run of these words over these mails and steps ends, and what it puts.
+/// How a run of these words over these mails and steps ends, and what it puts, where nothing is kept.
 pub fn ended_on(
     alloc: Global,
     mails: &[&str],
     steps: Option<&str>,
     words: &[&str],
 ) -> Result<(Status, String), Fail> {
-    let mut mbox = source(alloc, mbox_of(alloc, mails)?.as_str(), NEVER)?;
-    match steps {
-        Some(steps) => {
-            let mut steps = source(alloc, steps, NEVER)?;
-            ended(alloc, words, &mut mbox, Some(&mut steps), NEVER)
-        }
-        None => ended(alloc, words, &mut mbox, None, NEVER),
+    let mbox = mbox_of(alloc, mails)?;
+    ended_over(alloc, words, mbox.as_str(), steps, &mut empty_shelf(alloc)?)
+}
+
+/// Each row puts what it tells, where nothing is kept.
+fn each_alone<R: Abort>(rt: &R, alloc: Global, rows: &[Row]) -> Result<(), Fail> {
+    for (mails, steps, words, put) in rows.iter().copied() {
+        let (end, text) = ended_on(alloc, mails, steps, words)?;
+        assert_eq!(rt; text.as_str(), put);
+        assert_eq!(rt; end, Status::Ok);
     }
+    Ok(())
 }
 
 #[test]
 fn mails_that_come_late(rt: HostRuntime) -> Result<(), Fail> {
-    for (mails, steps, words, put) in LATE {
-        let (end, text) = ended_on(rt.alloc(), mails, steps, words)?;
-        assert_eq!(rt; text.as_str(), put);
-        assert_eq!(rt; end, Status::Ok);
-    }
-    Ok(())
+    each_alone(&rt, rt.alloc(), &LATE)?;
+    each_alone(&rt, rt.alloc(), &PARENT)?;
+    each_alone(&rt, rt.alloc(), &COPY)
 }
 
 #[test]
 fn groups(rt: HostRuntime) -> Result<(), Fail> {
-    for (mails, steps, words, put) in GROUPS {
-        let (end, text) = ended_on(rt.alloc(), mails, steps, words)?;
-        assert_eq!(rt; text.as_str(), put);
-        assert_eq!(rt; end, Status::Ok);
-    }
-    Ok(())
+    each_alone(&rt, rt.alloc(), &MEMBERS)?;
+    each_alone(&rt, rt.alloc(), &OUTSIDERS)
 }
 
 #[test]
 fn single_chats(rt: HostRuntime) -> Result<(), Fail> {
-    for (mails, steps, words, put) in SINGLE {
-        let (end, text) = ended_on(rt.alloc(), mails, steps, words)?;
-        assert_eq!(rt; text.as_str(), put);
-        assert_eq!(rt; end, Status::Ok);
-    }
-    Ok(())
+    each_alone(&rt, rt.alloc(), &TIMER)?;
+    each_alone(&rt, rt.alloc(), &SINGLE)
 }
 
 #[test]
 fn three_chats(rt: HostRuntime) -> Result<(), Fail> {
-    for (mails, steps, words, put) in CHATS {
-        let (end, text) = ended_on(rt.alloc(), mails, steps, words)?;
-        assert_eq!(rt; text.as_str(), put);
-        assert_eq!(rt; end, Status::Ok);
-    }
-    Ok(())
+    each_alone(&rt, rt.alloc(), &CHATS)
 }

@@ -3,25 +3,32 @@ ghost use Rattle.std.specs.Prelude.{◌≡◌, ◌<◌};
 
 use follow::{Status, run};
 use kit::{Steps, Text};
-use outside::{Clock, FixedClock, MemorySink, MemorySource, NoShelf};
+use outside::{Clock, FixedClock, MemorySink, MemorySource, Shelf};
+use shelves::MemoryShelf;
 use std::alloc::Global;
 use std::marker::Brand;
 use std::sync::ledger::{Blank, Ledger};
 use std::test::Fail;
 
-const LIST: [&str; 5] = ["--me", "me@x.org", "--at", "1714564800", "list"];
+/// The list at 2024-05-01 12:00 UTC.
+pub const LIST: [&str; 5] = ["--me", "me@x.org", "--at", "1714564800", "list"];
 
 pub const M1: &str =
     "From -\nFrom: Bob <bob@x.org>\nTo: me@x.org\nDate: Wed, 01 May 2024 10:00:00 +0000\nMessage-ID: <m1@x.org>\nChat-Version: 1.0\n\nHi\n\n";
 
 pub const M1_LINE: &str = "single:bob@x.org | Bob | fresh 1 | 2024-05-01 10:00 | Hi\n";
 
-const READ: &str = "chats: read fault: mbox\n";
+pub const DISK: &str = "chats: disk fault\n";
+
+pub const READ: &str = "chats: read fault: mbox\n";
 
 pub const UNBUILT: &str = "chats: not built yet\n";
 
 /// The number of a call that there is not.
 pub const NEVER: u64 = 0;
+
+/// The number of bytes for which each place of a shelf has room.
+const ROOM: usize = 5_000;
 
 fn texts(alloc: Global, words: &[&str]) -> Result<Vec<Text>, Fail> {
     let mut texts = Vec::new(alloc);
@@ -35,12 +42,33 @@ pub fn source(alloc: Global, bytes: &str, fails: u64) -> Result<MemorySource, Fa
     Ok(MemorySource::new(bytes.as_bytes().to_vec(alloc)?, [fails].to_vec(alloc)?))
 }
 
-fn run_counted<C: Clock, L: Ledger>(
+/// A shelf that has such a content in A and nothing else, with room for 128 calls. The call with the number `fails` fails, and
+/// all from the number `stop` on.
+pub fn shelf_with(
+    alloc: Global,
+    a: &[u8],
+    fails: u64,
+    stop: Option<u64>,
+) -> Result<MemoryShelf, Fail> {
+    if a.len() > ROOM {
+        return Err(Fail::from("no room"));
+    }
+    let fails = [fails].to_vec(alloc)?;
+    Ok(MemoryShelf::new(alloc, a, &[], &[], ROOM, 128, fails, stop)?)
+}
+
+/// A shelf in which nothing is kept, and whose calls don't fail.
+pub fn empty_shelf(alloc: Global) -> Result<MemoryShelf, Fail> {
+    shelf_with(alloc, &[], NEVER, None)
+}
+
+fn run_counted<H: Shelf, C: Clock, L: Ledger>(
     alloc: Global,
     blank: Blank,
     words: &[Text],
     mbox: &mut MemorySource,
     steps_file: Option<&mut MemorySource>,
+    shelf: &mut H,
     clock: &mut C,
     out: &mut MemorySink,
 ) -> Status
@@ -49,36 +77,37 @@ fn run_counted<C: Clock, L: Ledger>(
     requires some { 0 < blank.parts }
 {
     let mut count = Steps::<L>::open(blank);
-    let mut shelf = NoShelf::new();
     run(
-        alloc, words, mbox, steps_file, &mut shelf, clock, out, &mut count,
+        alloc, words, mbox, steps_file, shelf, clock, out, &mut count,
     )
 }
 
-/// The status of a run by a clock, and what it put.
-pub fn ended_by<C: Clock>(
+/// The status of a run over a shelf and by a clock, and what it put.
+pub fn ended_by<H: Shelf, C: Clock>(
     alloc: Global,
     words: &[&str],
     mbox: &mut MemorySource,
     steps_file: Option<&mut MemorySource>,
+    shelf: &mut H,
     clock: &mut C,
     put_fails: u64,
 ) -> Result<(Status, String), Fail> {
     let words = texts(alloc, words)?;
-    let mut out = MemorySink::new(alloc, 4096, [put_fails].to_vec(alloc)?)?;
-    let status = run_counted::<C, Brand>(
+    let mut out = MemorySink::new(alloc, 65_536, [put_fails].to_vec(alloc)?)?;
+    let status = run_counted::<H, C, Brand>(
         alloc,
         Blank::new(1),
         &words,
         mbox,
         steps_file,
+        shelf,
         clock,
         &mut out,
     );
     Ok((status, String::from_utf8_lossy(alloc, out.bytes())?))
 }
 
-/// The same by a clock that is at 1970.
+/// The same by a clock that is at 1970, where nothing is kept.
 pub fn ended(
     alloc: Global,
     words: &[&str],
@@ -91,15 +120,35 @@ pub fn ended(
         words,
         mbox,
         steps_file,
+        &mut empty_shelf(alloc)?,
         &mut FixedClock::new(0),
         put_fails,
     )
 }
 
-/// The same without a steps file, where no device fails.
-pub fn answered(alloc: Global, words: &[&str], mbox: &str) -> Result<(Status, String), Fail> {
+/// The same over an mbox, a steps file where there is one, and a shelf, where neither file fails.
+pub fn ended_over<H: Shelf>(
+    alloc: Global,
+    words: &[&str],
+    mbox: &str,
+    steps: Option<&str>,
+    shelf: &mut H,
+) -> Result<(Status, String), Fail> {
     let mut mbox = source(alloc, mbox, NEVER)?;
-    ended(alloc, words, &mut mbox, None, NEVER)
+    let mut clock = FixedClock::new(0);
+    match steps {
+        Some(steps) => {
+            let mut steps = source(alloc, steps, NEVER)?;
+            let steps = Some(&mut steps);
+            ended_by(alloc, words, &mut mbox, steps, shelf, &mut clock, NEVER)
+        }
+        None => ended_by(alloc, words, &mut mbox, None, shelf, &mut clock, NEVER),
+    }
+}
+
+/// The same without a steps file, where nothing is kept and no device fails.
+pub fn answered(alloc: Global, words: &[&str], mbox: &str) -> Result<(Status, String), Fail> {
+    ended_over(alloc, words, mbox, None, &mut empty_shelf(alloc)?)
 }
 
 #[test]

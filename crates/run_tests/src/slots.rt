@@ -11,7 +11,7 @@ use std::alloc::Global;
 use std::test::Fail;
 
 /// The image of a mailbox with one mail from Bob, after two changes.
-const M1_IMAGE: &[u8] =
+pub const M1_IMAGE: &[u8] =
     b"CHATSIM1\0\0\0\x08me@x.org\0\0\0\0\0\0\0\x02\0\0\0\0\0\0\0\x7e\0\0\0\0\0\0\0\0\0\0\0\0\0\0\0\0\0\0\0\0f2.\xc0\0\0\0\x02\0\0\0\x01\0\0\0\x01\0\0\0\0f2.\xc0\0\0\0\0\0\x08m1@x.org\0\0\0\x09bob@x.org\0\0\0\x03Bob\0\0\0\x01\0\0\0\x08me@x.org\0\0\0\0\x01\0\0\0\0f2\x12\xa0\0\0\0\0\0\0\0\0\x01\0\0\0\0\0\0\0\0\0\0\0\0\0\0\0\0\0\0\0\0\0\0\0\0\x02Hi\0\0\0\0\0\0\0\0\0\0\0";
 
 /// The image of an empty mailbox after two changes.
@@ -26,7 +26,7 @@ const THREE: &[u8] =
 const NONE: &[u8] = b"CHATSIM0";
 
 /// A gate, a number below 256, the length of an image and the image.
-fn slot(alloc: Global, gate: u8, number: u8, image: &[u8]) -> Result<Vec<u8>, Fail> {
+pub fn slot(alloc: Global, gate: u8, number: u8, image: &[u8]) -> Result<Vec<u8>, Fail> {
     let mut bytes = Vec::new(alloc);
     bytes.push(gate)?;
     bytes.extend_from_slice(&[0, 0, 0, 0, 0, 0, 0, number])?;
@@ -75,7 +75,7 @@ fn is_above(number: u64, kept: &Option<(Mailbox, Position)>) -> bool
 
 /// Opens the slots, and saves an image where its number is greater than the count that is kept. It answers whether it was
 /// saved.
-fn save(alloc: Global, shelf: &mut MemoryShelf, number: u64, image: &[u8]) -> bool {
+pub fn save(alloc: Global, shelf: &mut MemoryShelf, number: u64, image: &[u8]) -> bool {
     let Ok(Opened { mut slots, kept }) = Slots::open(alloc, shelf) else {
         return false;
     };
@@ -98,7 +98,7 @@ fn the_first_save_writes_207_bytes_to_a(rt: HostRuntime) -> Result<(), Fail> {
     Ok(())
 }
 
-fn called(did: Did, place: Place, at: u64, len: u64) -> ShelfCall {
+pub fn called(did: Did, place: Place, at: u64, len: u64) -> ShelfCall {
     ShelfCall {
         did,
         place,
@@ -160,9 +160,9 @@ const DAMAGES: [(usize, u8, u64); 6] = [
     (84, 1, 85),
 ];
 
-/// A slot of two changes with another byte at this offset.
-fn damaged(alloc: Global, offset: usize, byte: u8) -> Result<Vec<u8>, Fail> {
-    let mut bytes = slot(alloc, 1, 2, TWO)?;
+/// Bytes of which one is another.
+pub fn with_byte(alloc: Global, bytes: &[u8], offset: usize, byte: u8) -> Result<Vec<u8>, Fail> {
+    let mut bytes = bytes.to_vec(alloc)?;
     match bytes.get_mut(offset) {
         Some(place) => *place = byte,
         None => return Err(Fail::from("too far")),
@@ -173,8 +173,9 @@ fn damaged(alloc: Global, offset: usize, byte: u8) -> Result<Vec<u8>, Fail> {
 #[test]
 fn damage_has_its_place_and_its_offset(rt: HostRuntime) -> Result<(), Fail> {
     let alloc = rt.alloc();
+    let whole = slot(alloc, 1, 2, TWO)?;
     for (offset, byte, at) in DAMAGES {
-        let bytes = damaged(alloc, offset, byte)?;
+        let bytes = with_byte(alloc, &whole, offset, byte)?;
         assert_eq!(rt;
             kept_in(alloc, &bytes, &[])?,
             Err(SlotFault::Damaged(Place::A, at))
@@ -236,7 +237,7 @@ fn the_greater_number_is_chosen_and_a_where_they_are_equal(rt: HostRuntime) -> R
 }
 
 /// The first write to a shelf.
-fn first_write(shelf: &MemoryShelf) -> Option<ShelfCall> {
+pub fn first_write(shelf: &MemoryShelf) -> Option<ShelfCall> {
     shelf
         .calls()
         .iter()
@@ -261,7 +262,8 @@ fn a_closed_gate_is_not_written_again(rt: HostRuntime) -> Result<(), Fail> {
     Ok(())
 }
 
-const CRASHES: [Crash; 3] = [Crash::Old, Crash::New, Crash::Ones];
+/// All crashes.
+pub const CRASHES: [Crash; 3] = [Crash::Old, Crash::New, Crash::Ones];
 
 /// What is done where a run stops: three changes are saved, after the number of calls that this takes.
 #[derive(Clone, Copy)]
@@ -390,26 +392,29 @@ fn a_shelf_that_fails_opens_nothing(rt: HostRuntime) -> Result<(), Fail> {
     Ok(())
 }
 
-/// A shelf with one open slot in B whose image would be longer than any may be. It has none of its bytes.
+/// A shelf whose B tells a size and begins with these bytes. It takes all that is written, and keeps none of it.
 #[derive(Drop)]
-struct LongImage;
+pub struct Hollow {
+    pub size: u64,
+    pub head: &'static [u8],
+}
 
 /// The gate, the number 5 and the length 1,073,741,825.
-const LONG: [u8; 17] = [1, 0, 0, 0, 0, 0, 0, 0, 5, 0, 0, 0, 0, 64, 0, 0, 1];
+const LONG: &[u8] = &[1, 0, 0, 0, 0, 0, 0, 0, 5, 0, 0, 0, 0, 64, 0, 0, 1];
 
-impl Shelf for LongImage {
+impl Shelf for Hollow {
     ghost faults = { λ _. 0 };
 
     fn size(&mut self, place: Place) -> Result<u64, Failed> {
-        Ok(if place == Place::B { 1_073_741_842 } else { 0 })
+        Ok(if place == Place::B { self.size } else { 0 })
     }
 
     fn read(&mut self, place: Place, _at: u64, buf: &mut [u8]) -> Result<usize, Failed> {
         if place != Place::B {
             return Ok(0);
         }
-        let count = buf.len().min(LONG.len());
-        buf[..count].copy_from_slice(&LONG[..count]);
+        let count = buf.len().min(self.head.len());
+        buf[..count].copy_from_slice(&self.head[..count]);
         Ok(count)
     }
 
@@ -434,8 +439,13 @@ impl Shelf for LongImage {
 
 #[test]
 fn a_length_over_the_bound_is_damaged_at_9(rt: HostRuntime) {
+    // It has none of the bytes of that image.
+    let mut shelf = Hollow {
+        size: 1_073_741_842,
+        head: LONG,
+    };
     assert_eq!(rt;
-        kept_count(rt.alloc(), &mut LongImage),
+        kept_count(rt.alloc(), &mut shelf),
         Err(SlotFault::Damaged(Place::B, 9))
     );
 }

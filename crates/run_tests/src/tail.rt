@@ -2,6 +2,7 @@
 ghost use Rattle.std.specs.Prelude.{◌≤◌, ◌^◌, IfOk};
 ghost use Rattle.tail_journal.specs.Tails.{IsGroup};
 
+use crate::slots::CRASHES;
 use mailbox_model::Change;
 use outside::Place;
 use shelves::{Crash, Did, MemoryShelf};
@@ -62,7 +63,7 @@ fn group_with(alloc: Global, other: Field, bytes: &[u8]) -> Result<Vec<u8>, Fail
 }
 
 /// The same group with each of these bases, one after the other.
-fn groups_from(alloc: Global, bases: &[u8]) -> Result<Vec<u8>, Fail> {
+pub fn groups_from(alloc: Global, bases: &[u8]) -> Result<Vec<u8>, Fail> {
     let mut groups = Vec::new(alloc);
     for base in bases {
         let group = group_with(alloc, Field::Base, &[0, 0, 0, 0, 0, 0, 0, *base])?;
@@ -497,8 +498,6 @@ fn a_shelf_that_fails_reads_no_tail(rt: HostRuntime) -> Result<(), Fail> {
     }
     Ok(())
 }
-
-const CRASHES: [Crash; 3] = [Crash::Old, Crash::New, Crash::Ones];
 
 /// The first group alone, read from its base.
 const FIRST: Reading = Reading {

@@ -1,10 +1,10 @@
 //! The words of a command line: which runs they start, and when the clock is asked.
 ghost use Rattle.std.specs.Prelude.{⊤, None};
 
-use crate::runs::{M1, M1_LINE, NEVER, UNBUILT, answered, ended, ended_by, source};
+use crate::runs::{M1, M1_LINE, NEVER, UNBUILT, answered, empty_shelf, ended_by, source};
 use follow::Status;
 use kit::LAST_MOMENT;
-use outside::Clock;
+use outside::{Clock, FixedClock, NoShelf};
 use std::alloc::Global;
 use std::test::Fail;
 
@@ -139,9 +139,13 @@ fn commands_that_are_not_answered_yet(rt: HostRuntime) -> Result<(), Fail> {
     let alloc = rt.alloc();
     for line in NOT_BUILT {
         let words = line.split(' ').collect::<Vec<&str>>(alloc)?;
-        // The mbox would fail if it were read.
+        // The mbox would fail if it were read, and the shelf if it were called.
         let mut mbox = source(alloc, M1, 1)?;
-        let (end, text) = ended(alloc, &words, &mut mbox, None, NEVER)?;
+        let mut shelf = NoShelf::new();
+        let mut clock = FixedClock::new(0);
+        let (end, text) = ended_by(
+            alloc, &words, &mut mbox, None, &mut shelf, &mut clock, NEVER,
+        )?;
         assert_eq!(rt; end, Status::Unbuilt, "{line}");
         assert_eq!(rt; text.as_str(), UNBUILT);
     }
@@ -220,7 +224,10 @@ fn the_clock_is_asked_once_where_no_moment_is_given(rt: HostRuntime) -> Result<(
             moment: 1_714_555_800,
             asked: 0,
         };
-        let (_status, text) = ended_by(alloc, &words, &mut mbox, None, &mut clock, NEVER)?;
+        let mut shelf = empty_shelf(alloc)?;
+        let (_status, text) = ended_by(
+            alloc, &words, &mut mbox, None, &mut shelf, &mut clock, NEVER,
+        )?;
         assert_eq!(rt; clock.asked, asked, "{line}");
         assert_eq!(rt; text.as_str(), put);
     }

@@ -5,7 +5,7 @@ use Rattle.follow.proofs.top.refuse.Goals as goal
 
 pub returns-in-Ok-clause-line : goal.returns-in-Ok-clause-line
 returns-in-Ok-clause-line g c = (
-  c.args.why,
+  c.args.why.now,
   c.status.ensures,
   inl refl,
   put_whole (g.K.Sink.held c.args.out.now) (g.K.Sink.held c.put.new.self) (g.K.Sink.faults c.args.out.now) (g.K.Sink.faults c.put.new.self) _ _ _

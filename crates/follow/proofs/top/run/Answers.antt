@@ -3,7 +3,7 @@ use Rattle.outside.specs.Causes.{Rose}
 use Rattle.follow.specs.Outcome.{CauseOf, TakesAll, early, mbox_budget, outcome, steps_budget}
 use Rattle.follow.specs.Words.{request}
 use Rattle.follow.specs.declared.status.Refusal.{Refusal}
-use Rattle.follow.proofs.Refused.{answered, not_all, not_all_steps, not_endless, not_read, second}
+use Rattle.follow.proofs.Refused.{answered, not_all, not_all_steps, not_disk, not_endless, not_read, second}
 use Rattle.follow.proofs.WordReadings.{comes_unwritten}
 use Rattle.follow.proofs.top.run.Goals as goal
 
@@ -19,7 +19,7 @@ pub returns-in-Some-clause-line : goal.returns-in-Some-clause-line
 returns-in-Some-clause-line g c = rw c.in-Some.is c.run_given.ensures.line
 
 pub returns-in-Some-clause-complete : goal.returns-in-Some-clause-complete
-returns-in-Some-clause-complete g c = rw c.in-Some.is (λ bytes text lines next known told gives is few few_steps no_mbox no_out no_steps.
+returns-in-Some-clause-complete g c = rw c.in-Some.is (λ bytes text lines places next known told seen gives is few few_steps no_mbox no_out no_shelf no_steps.
     let ran = c.run_given.ensures in
     let old = g.K.Sink.held c.args.out.now in
     let new = g.K.Sink.held c.run_given.new.out in
@@ -29,15 +29,16 @@ returns-in-Some-clause-complete g c = rw c.in-Some.is (λ bytes text lines next 
     let steps_after = g.S.Source.left c.run_given.new.steps_file in
     let rose = Rose (g.K.Sink.faults c.args.out.now) (g.K.Sink.faults c.run_given.new.out) in
     let cause : Refusal → Type 0 = CauseOf (Rose (g.M.Source.faults c.args.mbox.now) (g.M.Source.faults c.run_given.new.mbox)) (Rose (g.S.Source.faults c.in-Some.steps_file.now) (g.S.Source.faults c.run_given.new.steps_file))
-    (TakesAll mbox_left mbox_after mbox_budget) (TakesAll steps_left steps_after steps_budget) in
-    answered old new (outcome c.args.words.now bytes lines next) text c.run_given.result is (ran.status bytes lines next known told gives) (ran.answer bytes lines next known told gives)
+    (Rose (g.H.Shelf.faults c.args.shelf.now) (g.H.Shelf.faults c.run_given.new.shelf)) (TakesAll mbox_left mbox_after mbox_budget) (TakesAll steps_left steps_after steps_budget) in
+    answered old new (outcome c.args.words.now bytes lines places next) text c.run_given.result is (ran.status bytes lines places next known told seen gives) (ran.answer bytes lines places next known told seen gives)
     (not_read old new cause rose c.run_given.result ran.line no_mbox no_steps)
     (not_endless old new cause rose c.run_given.result ran.line (not_all mbox_left mbox_after bytes mbox_budget known few) (not_all_steps steps_left steps_after lines steps_budget told few_steps))
+    (not_disk old new cause rose c.run_given.result ran.line no_shelf)
     (λ written. no_out (ran.write written)))
 
 pub returns-in-Some-clause-steps_untouched : goal.returns-in-Some-clause-steps_untouched
 returns-in-Some-clause-steps_untouched g c = rw c.in-Some.is
-    (second (early (request c.args.words.now)) (c.run_given.new.mbox ≡ c.args.mbox.now) (c.run_given.new.steps_file ≡ c.in-Some.steps_file.now) c.run_given.ensures.untouched)
+    (second (early (request c.args.words.now)) (c.run_given.new.mbox ≡ c.args.mbox.now) (c.run_given.new.steps_file ≡ c.in-Some.steps_file.now) (c.run_given.new.shelf ≡ c.args.shelf.now) c.run_given.ensures.untouched)
 
 pub returns-in-Some-clause-steps_took : goal.returns-in-Some-clause-steps_took
 returns-in-Some-clause-steps_took g c = rw c.in-Some.is c.run_given.ensures.steps_took
@@ -51,15 +52,25 @@ pub returns-in-None-clause-status : goal.returns-in-None-clause-status
 returns-in-None-clause-status g c = rw c.in-None.is c.run_given-in-None.ensures.status
 
 pub returns-in-None-clause-complete : goal.returns-in-None-clause-complete
-returns-in-None-clause-complete g c = rw c.in-None.is (λ bytes text lines next known told gives is few few_steps no_mbox no_out no_steps.
+returns-in-None-clause-complete g c = rw c.in-None.is (λ bytes text lines places next known told seen gives is few few_steps no_mbox no_out no_shelf no_steps.
     let ran = c.run_given-in-None.ensures in
     let old = g.K.Sink.held c.args.out.now in
     let new = g.K.Sink.held c.run_given-in-None.new.out in
     let mbox_left = g.M.Source.left c.args.mbox.now in
     let mbox_after = g.M.Source.left c.run_given-in-None.new.mbox in
     let rose = Rose (g.K.Sink.faults c.args.out.now) (g.K.Sink.faults c.run_given-in-None.new.out) in
-    let cause : Refusal → Type 0 = CauseOf (Rose (g.M.Source.faults c.args.mbox.now) (g.M.Source.faults c.run_given-in-None.new.mbox)) (Rose 0 0) (TakesAll mbox_left mbox_after mbox_budget) (TakesAll (Some []) (Some []) steps_budget) in
-    answered old new (outcome c.args.words.now bytes lines next) text c.run_given-in-None.result is (ran.status bytes lines next known told gives) (ran.answer bytes lines next known told gives)
+    let cause : Refusal → Type 0 = CauseOf (Rose (g.M.Source.faults c.args.mbox.now) (g.M.Source.faults c.run_given-in-None.new.mbox)) (Rose 0 0)
+    (Rose (g.H.Shelf.faults c.args.shelf.now) (g.H.Shelf.faults c.run_given-in-None.new.shelf)) (TakesAll mbox_left mbox_after mbox_budget) (TakesAll (Some []) (Some []) steps_budget) in
+    answered old new (outcome c.args.words.now bytes lines places next) text c.run_given-in-None.result is (ran.status bytes lines places next known told seen gives) (ran.answer bytes lines places next known told seen gives)
     (not_read old new cause rose c.run_given-in-None.result ran.line no_mbox (λ none. absurd (omega (arith, none))))
     (not_endless old new cause rose c.run_given-in-None.result ran.line (not_all mbox_left mbox_after bytes mbox_budget known few) (not_all (Some []) (Some []) [] steps_budget refl (omega (arith))))
+    (not_disk old new cause rose c.run_given-in-None.result ran.line no_shelf)
     (λ written. no_out (ran.write written)))
+
+-- ---- what a crash may leave
+
+pub returns-in-Some-clause-crash : goal.returns-in-Some-clause-crash
+returns-in-Some-clause-crash g c = rw c.in-Some.is c.run_given.ensures.crash
+
+pub returns-in-None-clause-crash : goal.returns-in-None-clause-crash
+returns-in-None-clause-crash g c = rw c.in-None.is c.run_given-in-None.ensures.crash

@@ -1,11 +1,12 @@
 use Rattle.std.proofs.Common.{rules, ◌≡◌, ◌⊎◌, subst}
 use Rattle.outside.specs.Causes.{Rose}
-use Rattle.follow.specs.Outcome.{CauseOf, PutsWhole, TakesAll, mbox_budget, outcome, steps_budget}
+use Rattle.follow.specs.Outcome.{CauseOf, LastIf, PutsWhole, TakesAll, given_in, mbox_budget, outcome, steps_budget}
 use Rattle.follow.specs.Statuses.{line_of, status_of}
+use Rattle.follow.specs.Words.{request}
 use Rattle.follow.specs.declared.status.Refusal.{Refusal}
 use Rattle.follow.specs.declared.status.Refusal.TheVariants as refusal
 use Rattle.follow.proofs.Clocks.{AsksClock-weaker}
-use Rattle.follow.proofs.Refused.{agrees_refused, not_memory, puts_refused, refused_line, said_memory}
+use Rattle.follow.proofs.Refused.{agrees_refused, last_said, not_memory, puts_refused, refused_line, said_memory}
 use Rattle.follow.proofs.top.run_given.Goals as goal
 
 pub returns-in-Ok-clause-clock : goal.returns-in-Ok-clause-clock
@@ -17,20 +18,20 @@ returns-in-Err-clause-clock g c =
     AsksClock-weaker _ _ _ _ _ _ (λ memory. absurd (not_memory c.in-Err.why is memory)) c.in-Err.ensures.clock
 
 pub returns-in-Err-2-clause-status : goal.returns-in-Err-2-clause-status
-returns-in-Err-2-clause-status g c = λ bytes lines next known told gives.
-    agrees_refused (outcome c.args.words.now bytes lines next) (g.K.Sink.held c.args.out.now) (g.K.Sink.held c.reply.new.out) c.in-Err.why c.refuse.result
-    (c.in-Err.ensures.puts bytes lines next known told gives) c.refuse.ensures.status
+returns-in-Err-2-clause-status g c = λ bytes lines places next known told seen gives.
+    agrees_refused (outcome c.args.words.now bytes lines places next) (g.K.Sink.held c.args.out.now) (g.K.Sink.held c.reply.new.out) c.in-Err.why c.refuse.result
+    (c.in-Err.ensures.puts bytes lines places next known told seen gives) c.refuse.ensures.status
 
 pub returns-in-Err-2-clause-answer : goal.returns-in-Err-2-clause-answer
-returns-in-Err-2-clause-answer g c = λ bytes lines next known told gives.
+returns-in-Err-2-clause-answer g c = λ bytes lines places next known told seen gives.
     let other : c.in-Err.why ≡ refusal.Write → ⊥ = search rules in
-    puts_refused (outcome c.args.words.now bytes lines next) (g.K.Sink.held c.args.out.now) (g.K.Sink.held c.refuse.new.out) c.in-Err.why c.refuse.result other c.refuse.ensures.status
+    puts_refused (outcome c.args.words.now bytes lines places next) (g.K.Sink.held c.args.out.now) (g.K.Sink.held c.refuse.new.out) c.in-Err.why c.refuse.result other c.refuse.ensures.status
 
 pub returns-in-Err-2-clause-line : goal.returns-in-Err-2-clause-line
 returns-in-Err-2-clause-line g c =
     let other : c.in-Err.why ≡ refusal.Write → ⊥ = search rules in
     let cause : Refusal → Type 0 = CauseOf (Rose (g.M.Source.faults c.args.mbox.now) (g.M.Source.faults c.reply.new.mbox)) (Rose (g.S.Source.faults c.args.steps_file.now) (g.S.Source.faults c.reply.new.steps_file))
-    (TakesAll (g.M.Source.left c.args.mbox.now) (g.M.Source.left c.reply.new.mbox) mbox_budget) (TakesAll (g.S.Source.left c.args.steps_file.now) (g.S.Source.left c.reply.new.steps_file) steps_budget) in
+    (Rose (g.H.Shelf.faults c.args.shelf.now) (g.H.Shelf.faults c.reply.new.shelf)) (TakesAll (g.M.Source.left c.args.mbox.now) (g.M.Source.left c.reply.new.mbox) mbox_budget) (TakesAll (g.S.Source.left c.args.steps_file.now) (g.S.Source.left c.reply.new.steps_file) steps_budget) in
     refused_line (g.K.Sink.held c.args.out.now) (g.K.Sink.held c.refuse.new.out) cause (Rose (g.K.Sink.faults c.args.out.now) (g.K.Sink.faults c.refuse.new.out)) c.in-Err.why c.refuse.result c.in-Err.ensures.cause tt
     (subst (λ before. (said : Refusal) × (c.refuse.result ≡ status_of said) × ((said ≡ c.in-Err.why) ⊎ (said ≡ refusal.Memory))
     × PutsWhole (g.K.Sink.held before) (g.K.Sink.held c.refuse.new.out) (line_of said) (Rose (g.K.Sink.faults before) (g.K.Sink.faults c.refuse.new.out)))
@@ -38,3 +39,16 @@ returns-in-Err-2-clause-line g c =
 
 pub returns-in-Err-2-clause-clock : goal.returns-in-Err-2-clause-clock
 returns-in-Err-2-clause-clock g c = AsksClock-weaker _ _ _ _ _ _ (λ memory. said_memory c.in-Err.why c.refuse.result c.refuse.ensures.status memory) c.in-Err.ensures.clock
+
+-- ---- what is kept
+
+pub returns-in-Err-clause-lasting : goal.returns-in-Err-clause-lasting
+returns-in-Err-clause-lasting g c = λ bytes lines places next known told seen gives.
+    let is : c.in-Err.why ≡ refusal.Write = search rules in
+    let o = given_in (request c.args.words.now) bytes lines places next in
+    subst (λ (why : Refusal). LastIf o (status_of why) (g.H.Shelf.may_leave c.reply.new.shelf)) is (c.in-Err.ensures.lasting bytes lines places next known told seen gives)
+
+pub returns-in-Err-2-clause-lasting : goal.returns-in-Err-2-clause-lasting
+returns-in-Err-2-clause-lasting g c = λ bytes lines places next known told seen gives.
+    last_said (given_in (request c.args.words.now) bytes lines places next) (g.H.Shelf.may_leave c.reply.new.shelf) c.in-Err.why c.refuse.result c.refuse.ensures.status
+    (c.in-Err.ensures.lasting bytes lines places next known told seen gives)

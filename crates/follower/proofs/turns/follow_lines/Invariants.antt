@@ -1,23 +1,31 @@
-use Rattle.std.proofs.Common.{◌≤◌, ◌-◌, ℕ, List, Option, Some}
+use Rattle.std.proofs.Common.{◌≡◌, ◌≤◌, ◌-◌, ℕ, List, Option, false}
 use Rattle.mboxrd.specs.Reading as mbox_reading
-use Rattle.source_buffer.specs.Known.{IfKnown}
+use Rattle.outside.specs.Moments.{LeavesOnly, WhereKnown}
+use Rattle.state_store.specs.States.{State}
+use Rattle.state_store.specs.Stored.{IsStored}
 use Rattle.steps_file.specs.Reading as steps_reading
-use Rattle.follower.specs.Following.{IsUsable, to_come}
-use Rattle.follower.specs.Going.{Leads}
-use Rattle.follower.specs.Reached.{max_changes}
+use Rattle.keeper.specs.Keeping.{IsKept, max_changes}
+use Rattle.follower.specs.Committing.{LinesToCome, OnWay, Prefix}
+use Rattle.follower.specs.Feed.{Feed}
 use Rattle.follower.proofs.turns.follow_lines.Given as goal
 
 abbrev pub invariant-loop : goal.invariant-loop
 invariant-loop g l = record {
-  usable : IsUsable l.follower;
+  usable : l.follower.failed ≡ false;
+  few : l.follower.keeper.pending.count ≤ 256;
+  place : l.follower.lines.place ≡ l.follower.keeper.state.position.steps;
+  kept : WhereKnown (g.H.Shelf.seen l.shelf) (IsKept l.follower.keeper);
+  stored : WhereKnown (g.H.Shelf.seen l.shelf) (IsStored l.follower.keeper.store (g.H.Shelf.may_leave l.shelf));
   mbox_later : g.M.Source.faults l.fn.mbox ≤ g.M.Source.faults l.mbox;
   steps_later : g.S.Source.faults l.fn.steps_file ≤ g.S.Source.faults l.steps_file;
+  shelf_later : g.H.Shelf.faults l.fn.shelf ≤ g.H.Shelf.faults l.shelf;
   mbox_took : (bytes : List ℕ) × mbox_reading.Takes (g.M.Source.left l.fn.mbox) (g.M.Source.left l.mbox) l.fn.follower.mbox l.follower.mbox bytes;
   steps_took : (bytes : List ℕ) × steps_reading.Takes (g.S.Source.left l.fn.steps_file) (g.S.Source.left l.steps_file) l.fn.follower.lines l.follower.lines bytes;
-  goes : (last : Option ℕ) → IfKnown (g.M.Source.left l.fn.mbox) (g.M.Source.left l.mbox) (λ mails_before mails_after.
-      IfKnown (g.S.Source.left l.fn.steps_file) (g.S.Source.left l.steps_file) (λ before after.
-      Leads l.fn.follower.state (to_come last l.fn.follower mails_before (Some before)) l.follower.state (to_come last l.follower mails_after (Some after))));
+  goes : (last : Option ℕ) (start : State) (feed : Feed)
+      → OnWay start feed (LinesToCome last l.fn.follower (g.M.Source.left l.fn.mbox) (g.S.Source.left l.fn.steps_file)) l.fn.follower.keeper (g.H.Shelf.seen l.fn.shelf)
+      → LeavesOnly g.H.Shelf.moment g.H.Shelf.left_since l.fn.shelf l.shelf (Prefix start feed)
+      × OnWay start feed (LinesToCome last l.follower (g.M.Source.left l.mbox) (g.S.Source.left l.steps_file)) l.follower.keeper (g.H.Shelf.seen l.shelf);
 }
 
 abbrev pub decreases-loop : goal.decreases-loop
-decreases-loop g l = max_changes - l.follower.state.position.count
+decreases-loop g l = max_changes - l.follower.keeper.state.position.count

@@ -1,35 +1,76 @@
-use Rattle.std.proofs.Common.{arith, ◌∙◌}
+use Rattle.std.proofs.Common.{None, arith, refl, ◌∙◌}
 use Rattle.std.proofs.lemmas.Result.{err_from_is_err_and}
-use Rattle.follower.proofs.Going.{mail_came, mail_ended, mail_stopped, mbox_takes}
+use Rattle.outside.proofs.Moments.{and_then}
+use Rattle.follower.specs.Committing.{MailsToCome, Prefix}
+use Rattle.follower.proofs.Going.{mbox_takes, mbox_takes_none}
+use Rattle.follower.proofs.Rounds.{applied, ended, nothing_leaves}
 use Rattle.follower.proofs.turns.follow_mails.Goals as goal
 
-pub returns-in_err-turn_mail-clause-took : goal.returns-in_err-turn_mail-clause-took
-returns-in_err-turn_mail-clause-took g c =
-    mbox_takes (g.M.Source.left c.args.mbox.now) (g.M.Source.left c.loop.mbox) (g.M.Source.left c.turn_mail.new.mbox) c.args.follower.now.mbox c.loop.follower.mbox c.turn_mail.new.self.mbox c.loop.invariant.took c.in_err-turn_mail.ensures.took
+pub returns-in_err-round_of_mail-clause-took : goal.returns-in_err-round_of_mail-clause-took
+returns-in_err-round_of_mail-clause-took g c =
+    mbox_takes (g.M.Source.left c.args.mbox.now) (g.M.Source.left c.loop.mbox) (g.M.Source.left c.round_of_mail.new.mbox) c.args.follower.now.mbox c.loop.follower.mbox c.round_of_mail.new.follower.mbox c.loop.invariant.took c.in_err-round_of_mail.ensures.took
 
 pub loop-preserved : goal.loop-preserved
 loop-preserved g c =
+    let H = g.H.Shelf in
     let past = c.loop.invariant in
-    let turn = c.in_ok-turn_mail.ensures in record {
-      usable = turn.usable;
-      lines = turn.lines ∙ past.lines;
-      later = omega (arith, past.later, turn.later);
-      took = mbox_takes (g.M.Source.left c.args.mbox.now) (g.M.Source.left c.loop.mbox) (g.M.Source.left c.turn_mail.new.mbox) c.args.follower.now.mbox c.loop.follower.mbox c.turn_mail.new.self.mbox past.took turn.took;
-      goes = mail_came (g.M.Source.left c.args.mbox.now) (g.M.Source.left c.loop.mbox) (g.M.Source.left c.turn_mail.new.mbox) c.args.follower.now c.loop.follower c.turn_mail.new.self
-          c.in_ok-turn_mail.field-0 c.in-Applied.is past.goes turn.goes;
+    let round = c.in_ok-round_of_mail.ensures in
+    let new = c.round_of_mail.new in record {
+      usable = round.usable;
+      few = round.few;
+      kept = round.kept;
+      stored = round.stored;
+      lines = round.lines ∙ past.lines;
+      later = omega (arith, past.later, round.later);
+      shelf_later = omega (arith, past.shelf_later, round.shelf_later);
+      took = mbox_takes (g.M.Source.left c.args.mbox.now) (g.M.Source.left c.loop.mbox) (g.M.Source.left new.mbox) c.args.follower.now.mbox c.loop.follower.mbox new.follower.mbox past.took round.took;
+      goes = λ start feed on.
+          let first = past.goes start feed on in
+          let second = round.goes start feed first.1 in (
+            and_then H.moment H.left_since c.args.shelf.now c.loop.shelf new.shelf (Prefix start feed) (Prefix start feed) (Prefix start feed) first.0 second.0 (λ _ p. p) (λ _ p. p),
+            applied start feed (H.may_leave new.shelf) (H.seen new.shelf) None (MailsToCome new.follower (g.M.Source.left new.mbox)) new.follower.keeper c.in_ok-round_of_mail.field-0 c.in-Applied.is second.1,
+          );
     }
 
 pub returns-in-End-clause-took : goal.returns-in-End-clause-took
 returns-in-End-clause-took g c =
-    mbox_takes (g.M.Source.left c.args.mbox.now) (g.M.Source.left c.loop.mbox) (g.M.Source.left c.turn_mail.new.mbox) c.args.follower.now.mbox c.loop.follower.mbox c.turn_mail.new.self.mbox c.loop.invariant.took c.in_ok-turn_mail.ensures.took
+    mbox_takes (g.M.Source.left c.args.mbox.now) (g.M.Source.left c.loop.mbox) (g.M.Source.left c.round_of_mail.new.mbox) c.args.follower.now.mbox c.loop.follower.mbox c.round_of_mail.new.follower.mbox c.loop.invariant.took c.in_ok-round_of_mail.ensures.took
 
-pub returns-in_err-turn_mail-clause-goes : goal.returns-in_err-turn_mail-clause-goes
-returns-in_err-turn_mail-clause-goes g c =
+pub returns-in_err-round_of_mail-clause-goes : goal.returns-in_err-round_of_mail-clause-goes
+returns-in_err-round_of_mail-clause-goes g c = λ start feed on.
+    let H = g.H.Shelf in
     let p = err_from_is_err_and c.from_residual.result c.from_residual.ensures.1 in
-    rw (p.1, p.2) (mail_stopped (g.M.Source.left c.args.mbox.now) (g.M.Source.left c.loop.mbox) (g.M.Source.left c.turn_mail.new.mbox) c.args.follower.now c.loop.follower
-    c.in_err-turn_mail.field-0.0 c.loop.invariant.goes c.in_err-turn_mail.ensures.goes)
+    let first = c.loop.invariant.goes start feed on in
+    let second = c.in_err-round_of_mail.ensures.goes start feed first.1 in
+    rw (p.1, p.2) (
+      and_then H.moment H.left_since c.args.shelf.now c.loop.shelf c.round_of_mail.new.shelf (Prefix start feed) (Prefix start feed) (Prefix start feed) first.0 second.0 (λ _ p. p) (λ _ p. p),
+      second.1,
+    )
 
 pub returns-in-End-clause-goes : goal.returns-in-End-clause-goes
-returns-in-End-clause-goes g c =
-    mail_ended (g.M.Source.left c.args.mbox.now) (g.M.Source.left c.loop.mbox) (g.M.Source.left c.turn_mail.new.mbox) c.args.follower.now c.loop.follower c.turn_mail.new.self
-    c.in_ok-turn_mail.field-0 c.in-End.is c.loop.invariant.goes c.in_ok-turn_mail.ensures.goes
+returns-in-End-clause-goes g c = λ start feed on.
+    let H = g.H.Shelf in
+    let new = c.round_of_mail.new in
+    let first = c.loop.invariant.goes start feed on in
+    let second = c.in_ok-round_of_mail.ensures.goes start feed first.1 in (
+      and_then H.moment H.left_since c.args.shelf.now c.loop.shelf new.shelf (Prefix start feed) (Prefix start feed) (Prefix start feed) first.0 second.0 (λ _ p. p) (λ _ p. p),
+      ended start feed (H.may_leave new.shelf) (H.seen new.shelf) None (MailsToCome new.follower (g.M.Source.left new.mbox)) new.follower.keeper c.in_ok-round_of_mail.field-0 c.in-End.is second.1,
+    )
+
+pub loop-init : goal.loop-init
+loop-init g c =
+    let H = g.H.Shelf in
+    let shelf = c.args.shelf.now in record {
+      usable = c.requires.usable;
+      few = c.requires.few;
+      kept = c.requires.kept;
+      stored = c.requires.stored;
+      lines = refl;
+      later = omega arith;
+      shelf_later = omega arith;
+      took = mbox_takes_none (g.M.Source.left c.args.mbox.now) c.args.follower.now.mbox;
+      goes = λ start feed on. (
+        nothing_leaves H.moment H.left_since H.seen H.may_leave start feed on.others c.args.follower.now.keeper shelf (g.met.H.Shelf.only_now shelf) on.known c.requires.stored,
+        on,
+      );
+    }

@@ -1,20 +1,27 @@
-use Rattle.std.proofs.Common.{◌≡◌, ◌≤◌, ◌-◌, ℕ, List, None}
+use Rattle.std.proofs.Common.{◌≡◌, ◌≤◌, ◌-◌, ℕ, List, false}
 use Rattle.mboxrd.specs.Reading as mbox_reading
-use Rattle.source_buffer.specs.Known.{IfKnown}
-use Rattle.follower.specs.Following.{IsUsable, to_come}
-use Rattle.follower.specs.Going.{Leads}
-use Rattle.follower.specs.Reached.{max_changes}
+use Rattle.outside.specs.Moments.{LeavesOnly, WhereKnown}
+use Rattle.state_store.specs.States.{State}
+use Rattle.state_store.specs.Stored.{IsStored}
+use Rattle.keeper.specs.Keeping.{IsKept, max_changes}
+use Rattle.follower.specs.Committing.{MailsToCome, OnWay, Prefix}
+use Rattle.follower.specs.Feed.{Feed}
 use Rattle.follower.proofs.turns.follow_mails.Given as goal
 
 abbrev pub invariant-loop : goal.invariant-loop
 invariant-loop g l = record {
-  usable : IsUsable l.follower;
+  usable : l.follower.failed ≡ false;
+  few : l.follower.keeper.pending.count ≤ 256;
+  kept : WhereKnown (g.H.Shelf.seen l.shelf) (IsKept l.follower.keeper);
+  stored : WhereKnown (g.H.Shelf.seen l.shelf) (IsStored l.follower.keeper.store (g.H.Shelf.may_leave l.shelf));
   lines : l.follower.lines ≡ l.fn.follower.lines;
   later : g.M.Source.faults l.fn.mbox ≤ g.M.Source.faults l.mbox;
+  shelf_later : g.H.Shelf.faults l.fn.shelf ≤ g.H.Shelf.faults l.shelf;
   took : (bytes : List ℕ) × mbox_reading.Takes (g.M.Source.left l.fn.mbox) (g.M.Source.left l.mbox) l.fn.follower.mbox l.follower.mbox bytes;
-  goes : IfKnown (g.M.Source.left l.fn.mbox) (g.M.Source.left l.mbox) (λ before after.
-      Leads l.fn.follower.state (to_come None l.fn.follower before None) l.follower.state (to_come None l.follower after None));
+  goes : (start : State) (feed : Feed) → OnWay start feed (MailsToCome l.fn.follower (g.M.Source.left l.fn.mbox)) l.fn.follower.keeper (g.H.Shelf.seen l.fn.shelf)
+      → LeavesOnly g.H.Shelf.moment g.H.Shelf.left_since l.fn.shelf l.shelf (Prefix start feed)
+      × OnWay start feed (MailsToCome l.follower (g.M.Source.left l.mbox)) l.follower.keeper (g.H.Shelf.seen l.shelf);
 }
 
 abbrev pub decreases-loop : goal.decreases-loop
-decreases-loop g l = max_changes - l.follower.state.position.count
+decreases-loop g l = max_changes - l.follower.keeper.state.position.count

@@ -8,12 +8,12 @@ use Rattle.follower.proofs.follower.Follower.next_arrival.Goals as goal
 pub returns-clause-next : goal.returns-clause-next
 returns-clause-next g c =
     let now : Following = record {
-      state = record { mailbox = c.self.inside.engine.mailbox; position = c.self.inside.position };
+      keeper = c.self.inside.keeper;
       mbox = c.next.new.self;
       lines = c.self.inside.lines;
-      stale = c.self.inside.engine.stale;
+      failed = c.self.inside.failed;
     } in
-    let uid = c.next_uid-uid.ensures ∙ ap (λ (m : Mailbox). m.next_uid) c.mailbox.ensures ∙ ap (λ (f : Following). f.state.mailbox.next_uid) c.self.view_is in
+    let uid = c.next_uid-uid.ensures ∙ ap (λ (m : Mailbox). m.next_uid) (c.mailbox.ensures ∙ c.engine.ensures.mailbox) ∙ ap (λ (f : Following). f.keeper.state.mailbox.next_uid) c.self.view_is in
     let change = c.in_ok-arrival_of.ensures.change ∙ ap (λ uid. arrival_taken uid c.in_ok-taken.taken) uid in
     next_known (g.M.Source.left c.args.mbox.now) (g.M.Source.left c.next.new.source) c.args.self.now now c.self.inside.mbox c.in_ok-taken.taken c.in_ok-arrival_of.field-0
     (ap (λ (f : Following). f.mbox) c.self.view_is) change c.in_ok-taken.ensures.answer

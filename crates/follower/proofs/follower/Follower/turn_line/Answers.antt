@@ -1,34 +1,59 @@
 use Rattle.std.proofs.lemmas.Result.{err_from_is_err_and}
-use Rattle.std.proofs.Common.{◌+◌, Err, ap, ◌∙◌}
+use Rattle.std.proofs.Common.{◌≡◌, ◌+◌, ℕ, List, Err, true, false, ap, subst, sym, ◌∙◌}
+use Rattle.keeper.specs.Keeping.{after_change, is_refused}
+use Rattle.mboxrd.specs.Reading as mbox_reading
 use Rattle.follower.specs.Feed.{counted}
 use Rattle.follower.specs.Following.{Following}
 use Rattle.state_image.specs.declared.position.Position.{Position}
-use Rattle.follower.proofs.Turning.{line_stops, line_turns, lines_known}
+use Rattle.follower.proofs.Turning.{keep_cause, keep_full, line_stops, line_turns, lines_known}
 use Rattle.follower.proofs.follower.Follower.turn_line.Goals as goal
+
+pub returns-in_err-change-clause-mbox_took : goal.returns-in_err-change-clause-mbox_took
+returns-in_err-change-clause-mbox_took g c =
+    subst (λ (f : Following). (bytes : List ℕ) × mbox_reading.Takes (g.M.Source.left c.args.mbox.now) (g.M.Source.left c.change_of.new.mbox) f.mbox c.change_of.new.self.mbox bytes)
+    c.self.view_is c.in_err-change.ensures.took
+
+pub returns-in_err-apply-clause-mbox_took : goal.returns-in_err-apply-clause-mbox_took
+returns-in_err-apply-clause-mbox_took g c =
+    subst (λ (f : Following). (bytes : List ℕ) × mbox_reading.Takes (g.M.Source.left c.args.mbox.now) (g.M.Source.left c.change_of.new.mbox) c.args.self.now.mbox f.mbox bytes) (sym c.self-2.view_is)
+    (subst (λ (f : Following). (bytes : List ℕ) × mbox_reading.Takes (g.M.Source.left c.args.mbox.now) (g.M.Source.left c.change_of.new.mbox) f.mbox c.change_of.new.self.mbox bytes)
+    c.self.view_is c.in_ok-change.ensures.took)
+
+pub returns-clause-mbox_took : goal.returns-clause-mbox_took
+returns-clause-mbox_took g c =
+    subst (λ (f : Following). (bytes : List ℕ) × mbox_reading.Takes (g.M.Source.left c.args.mbox.now) (g.M.Source.left c.change_of.new.mbox) c.args.self.now.mbox f.mbox bytes) (sym c.self-2.view_is)
+    (subst (λ (f : Following). (bytes : List ℕ) × mbox_reading.Takes (g.M.Source.left c.args.mbox.now) (g.M.Source.left c.change_of.new.mbox) f.mbox c.change_of.new.self.mbox bytes)
+    c.self.view_is c.in_ok-change.ensures.took)
 
 pub returns-in_err-apply-clause-goes : goal.returns-in_err-apply-clause-goes
 returns-in_err-apply-clause-goes g c = λ last.
     let p = err_from_is_err_and c.from_residual-in_err-apply.result c.from_residual-in_err-apply.ensures.1 in
-    let old = c.args.self.now in
+    let old : Following = record c.args.self.now { failed = true } in
+    let why = c.in_err-apply.field-0.0 in
     let next = lines_known (g.S.Source.left c.args.steps_file.now) (g.S.Source.left c.next.new.source) c.self.inside.lines old.lines c.next.new.self c.in_ok-step.field-0
     (ap (λ (f : Following). f.lines) c.self.view_is) c.in_ok-step.ensures.answer in
-    let here = ap (λ (f : Following). record f { lines = c.next.new.self }) c.self.view_is in
-    let before = c.counted.ensures ∙ ap (λ (f : Following). counted f.state.position) c.self.view_is in
-    let place = c.at_line-position-2.ensures ∙ ap (λ (p : Position). record p { steps = c.place-2.result; lines = p.lines + 1 }) before
-    ∙ ap (λ steps. record (counted old.state.position) { steps = steps; lines = old.state.position.lines + 1 }) c.place-2.ensures in
-    rw (p.1, p.2) (line_stops _ _ _ _ old _ c.change_of.new.self _ c.in-Step.step c.at_line-position-2.result (c.in_ok-change.change, c.in_ok-change.position) here c.in_ok-change.ensures.rest
-    c.requires.usable.place c.in-Step.is next place c.in_ok-change.ensures.makes last _ c.in_err-apply.ensures.cause (λ e. c.in_err-apply.ensures.full (ap Err e)))
+    let here = ap (λ (f : Following). record f { lines = c.next.new.self; failed = true }) c.self.view_is in
+    let before = c.counted.ensures ∙ ap counted (c.position-position.ensures.value ∙ ap (λ (f : Following). f.keeper.state.position) c.self.view_is) in
+    let place = c.at_line-position.ensures ∙ ap (λ (p : Position). record p { steps = c.place-2.result; lines = p.lines + 1 }) before
+    ∙ ap (λ steps. record (counted old.keeper.state.position) { steps = steps; lines = old.keeper.state.position.lines + 1 }) c.place-2.ensures in
+    rw (p.1, p.2) (line_stops _ _ _ _ old _ c.change_of.new.self _ c.in-Step.step c.at_line-position.result (c.in_ok-change.change, c.in_ok-change.position) here c.in_ok-change.ensures.rest
+    (sym c.requires.place) c.in-Step.is next place c.in_ok-change.ensures.makes last _ (keep_cause why c.in_err-apply.ensures.cause)
+    (λ e. subst (λ (f : Following). is_refused f.keeper.state c.in_ok-change.change ≡ true) c.self-2.view_is (c.in_err-apply.ensures.full (ap Err (keep_full why e)))))
 
 pub returns-clause-goes : goal.returns-clause-goes
 returns-clause-goes g c = λ last.
-    let old = c.args.self.now in
+    let old : Following = record c.args.self.now { failed = true } in
+    let change = c.in_ok-change.change in
+    let position = c.in_ok-change.position in
     let next = lines_known (g.S.Source.left c.args.steps_file.now) (g.S.Source.left c.next.new.source) c.self.inside.lines old.lines c.next.new.self c.in_ok-step.field-0
     (ap (λ (f : Following). f.lines) c.self.view_is) c.in_ok-step.ensures.answer in
-    let here = ap (λ (f : Following). record f { lines = c.next.new.self }) c.self.view_is in
-    let before = c.counted.ensures ∙ ap (λ (f : Following). counted f.state.position) c.self.view_is in
-    let place = c.at_line-position-2.ensures ∙ ap (λ (p : Position). record p { steps = c.place-2.result; lines = p.lines + 1 }) before
-    ∙ ap (λ steps. record (counted old.state.position) { steps = steps; lines = old.state.position.lines + 1 }) c.place-2.ensures in
-    let applied = c.in_ok-apply.ensures in
-    let same = applied.lines ∙ ap (λ (f : Following). f.lines) c.in_ok-change.ensures.rest in
-    line_turns _ _ _ _ old _ c.change_of.new.self _ c.in-Step.step c.at_line-position-2.result (c.in_ok-change.change, c.in_ok-change.position) here c.in_ok-change.ensures.rest
-    c.requires.usable.place c.in-Step.is next place c.in_ok-change.ensures.makes c.apply.new.self last applied.made applied.state applied.mbox same
+    let here = ap (λ (f : Following). record f { lines = c.next.new.self; failed = true }) c.self.view_is in
+    let before = c.counted.ensures ∙ ap counted (c.position-position.ensures.value ∙ ap (λ (f : Following). f.keeper.state.position) c.self.view_is) in
+    let place = c.at_line-position.ensures ∙ ap (λ (p : Position). record p { steps = c.place-2.result; lines = p.lines + 1 }) before
+    ∙ ap (λ steps. record (counted old.keeper.state.position) { steps = steps; lines = old.keeper.state.position.lines + 1 }) c.place-2.ensures in
+    let new : Following = record { keeper = c.apply.new.self; mbox = c.self-2.inside.mbox; lines = c.self-2.inside.lines; failed = false } in
+    let room = subst (λ (f : Following). is_refused f.keeper.state change ≡ false) c.self-2.view_is c.in_ok-apply.ensures.room in
+    let state = c.in_ok-apply.ensures.state ∙ ap (λ (f : Following). after_change f.keeper.state change position) c.self-2.view_is in
+    let same = ap (λ (f : Following). f.lines) c.self-2.view_is ∙ ap (λ (f : Following). f.lines) c.in_ok-change.ensures.rest in
+    line_turns _ _ _ _ old _ c.change_of.new.self _ c.in-Step.step c.at_line-position.result (change, position) here c.in_ok-change.ensures.rest
+    (sym c.requires.place) c.in-Step.is next place c.in_ok-change.ensures.makes new last room state (ap (λ (f : Following). f.mbox) c.self-2.view_is) same

@@ -1,23 +1,37 @@
 use Rattle.std.proofs.lemmas.Result.{err_from_is_err_and}
-use Rattle.std.proofs.Common.{Err, ap, ◌∙◌}
+use Rattle.std.proofs.Common.{◌≡◌, None, Err, true, false, ap, subst, sym, ◌∙◌}
+use Rattle.keeper.specs.Keeping.{after_change, is_refused}
 use Rattle.follower.specs.Feed.{counted}
-use Rattle.follower.specs.Following.{Following}
+use Rattle.source_buffer.specs.Known.{IfKnown}
+use Rattle.follower.specs.Following.{Following, keep_fault, to_come}
+use Rattle.follower.specs.Going.{MakesFirst, StopsAt}
 use Rattle.state_image.specs.declared.position.Position.{Position}
-use Rattle.follower.proofs.Turning.{mail_stops, mail_turns}
+use Rattle.follower.proofs.Turning.{keep_cause, keep_full, mail_stops, mail_turns}
 use Rattle.follower.proofs.follower.Follower.turn_mail.Goals as goal
 
 pub returns-in_err-apply-clause-goes : goal.returns-in_err-apply-clause-goes
 returns-in_err-apply-clause-goes g c =
     let p = err_from_is_err_and c.from_residual-in_err-apply.result c.from_residual-in_err-apply.ensures.1 in
-    let next = c.in_ok-change.ensures.next in
-    rw (p.1, p.2) (mail_stops _ _ c.args.self.now c.next_arrival.new.self _ c.in-Some.change c.in_ok-change.ensures.rest c.in-Some.is next _ c.in_err-apply.ensures.cause (λ e. c.in_err-apply.ensures.full (ap Err e)))
+    let old : Following = record { keeper = c.self.inside.keeper; mbox = c.self.inside.mbox; lines = c.self.inside.lines; failed = true } in
+    let why = c.in_err-apply.field-0.0 in
+    let stops = mail_stops _ _ old c.next_arrival.new.self _ c.in-Some.change c.in_ok-change.ensures.rest c.in-Some.is c.in_ok-change.ensures.next (keep_fault why) (keep_cause why c.in_err-apply.ensures.cause)
+    (λ e. subst (λ (f : Following). is_refused f.keeper.state c.in-Some.change ≡ true) c.self-2.view_is (c.in_err-apply.ensures.full (ap Err (keep_full why e)))) in
+    rw (p.1, p.2) (subst (λ (f : Following). IfKnown (g.M.Source.left c.args.mbox.now) (g.M.Source.left c.next_arrival.new.mbox) (λ before after. StopsAt (keep_fault why) f.keeper.state (to_come None f before None)))
+    c.self.view_is stops)
 
 pub returns-clause-goes : goal.returns-clause-goes
 returns-clause-goes g c =
-    let applied = c.in_ok-apply.ensures in
+    let old : Following = record { keeper = c.self.inside.keeper; mbox = c.self.inside.mbox; lines = c.self.inside.lines; failed = true } in
     let mid = c.next_arrival.new.self in
-    let before = c.counted.ensures ∙ ap (λ (f : Following). counted f.state.position) c.self.view_is in
-    let mail = c.place.ensures ∙ ap (λ (f : Following). f.mbox.place) c.self.view_is in
-    let place = c.at_mail-position.ensures ∙ ap (λ (p : Position). record p { mbox = c.place.result }) before ∙ ap (λ mbox. record (counted mid.state.position) { mbox = mbox }) mail in
-    mail_turns _ _ c.args.self.now c.next_arrival.new.self _ c.in-Some.change c.in_ok-change.ensures.rest c.in-Some.is c.in_ok-change.ensures.next c.apply.new.self c.at_mail-position.result
-    applied.made applied.state place applied.mbox
+    let change = c.in-Some.change in
+    let q = c.at_mail-position.result in
+    let rest = c.in_ok-change.ensures.rest in
+    let new : Following = record { keeper = c.apply.new.self; mbox = c.self-2.inside.mbox; lines = c.self-2.inside.lines; failed = false } in
+    let room = subst (λ (f : Following). is_refused f.keeper.state change ≡ false) c.self-2.view_is c.in_ok-apply.ensures.room in
+    let state = c.in_ok-apply.ensures.state ∙ ap (λ (f : Following). after_change f.keeper.state change q) c.self-2.view_is in
+    let before = c.counted.ensures ∙ ap counted c.position-position.ensures.value ∙ sym (ap (λ (f : Following). counted f.keeper.state.position) rest) in
+    let mail = c.place.ensures ∙ ap (λ (f : Following). f.mbox.place) c.self-2.view_is in
+    let place = c.at_mail-position.ensures ∙ ap (λ (p : Position). record p { mbox = c.place.result }) before ∙ ap (λ mbox. record (counted mid.keeper.state.position) { mbox = mbox }) mail in
+    let turns = mail_turns _ _ old mid _ change rest c.in-Some.is c.in_ok-change.ensures.next new q room state place (ap (λ (f : Following). f.mbox) c.self-2.view_is) in
+    subst (λ (f : Following). IfKnown (g.M.Source.left c.args.mbox.now) (g.M.Source.left c.next_arrival.new.mbox) (λ before after.
+    MakesFirst f.keeper.state (to_come None f before None) new.keeper.state (to_come None new after None))) c.self.view_is turns

@@ -1,0 +1,108 @@
+use Rattle.std.proofs.Common.{◌≡◌, ℕ, Some, None, Err, Ok, refl, ap, sym, subst}
+use Rattle.std.proofs.lemmas.Result.{err_from_is_err_and}
+use Rattle.mboxrd.specs.Reading as mbox
+use Rattle.outside.specs.Moments.{LeavesOnly}
+use Rattle.follower.specs.Committing.{Prefix}
+use Rattle.follower.specs.Feed.{Feed, mails_feed, mails_left}
+use Rattle.follow.specs.Outcome.{TakesAll, changes, given_of, mbox_budget}
+use Rattle.follow.specs.Replies.{EndGoes}
+use Rattle.follow.specs.Statuses.{refusal_of}
+use Rattle.follow.proofs.Followed.{begin_leaves, begin_stops, fits_alone, follow_leaves, goes_to_end, halts_stop, own_state}
+use Rattle.follow.proofs.Replied.{cause_later, caused, some_left, took_all, took_more, took_within}
+use Rattle.follow.proofs.following.follow_mbox.Goals as goal
+
+pub returns-in_err-follower-clause-goes : goal.returns-in_err-follower-clause-goes
+returns-in_err-follower-clause-goes g c = λ bytes places next known seen gives.
+    let H = g.H.Shelf in
+    let p = err_from_is_err_and c.from_residual.result c.from_residual.ensures.1 in
+    let given = given_of c.args.me.now c.args.at bytes None places next in
+    let began = c.in_err-follower.ensures.goes bytes places known seen in
+    rw (p.1, p.2) (
+      begin_leaves H.moment H.left_since (H.may_leave c.args.shelf.now) given c.args.shelf.now c.begin.new.shelf began.0,
+      begin_stops given (H.may_leave c.begin.new.shelf) c.in_err-follower.field-0.0 began.1,
+    )
+
+-- what the follower makes of the mbox is what the run finds
+pub returns-in_err-follow_mails_to_end-clause-goes : goal.returns-in_err-follow_mails_to_end-clause-goes
+returns-in_err-follow_mails_to_end-clause-goes g c = λ bytes places next known seen gives.
+    let H = g.H.Shelf in
+    let p = err_from_is_err_and c.from_residual-in_err-follow_mails_to_end.result c.from_residual-in_err-follow_mails_to_end.ensures.1 in
+    let me = c.args.me.now in
+    let given = given_of me c.args.at bytes None places next in
+    let f = c.in_ok-follower.follower in
+    let s = f.keeper.state in
+    let why = c.in_err-follow_mails_to_end.field-0.0 in
+    let old = c.args.shelf.now in
+    let mid = c.begin.new.shelf in
+    let new = c.follow_mails_to_end.new.shelf in
+    let began = c.in_ok-follower.ensures.goes bytes places known seen in
+    let b = began.1 in
+    let went = c.in_err-follow_mails_to_end.ensures.goes b.rest (mails_left s.position bytes) b.left_is (sym b.ahead) (own_state me s (H.seen mid) b.own b.known) in
+    let feed : mails_feed s (mails_left s.position bytes) (Some c.moment_or_now-moment.result) ≡ changes given s =
+    ap (λ (n : ℕ). mails_feed s (mails_left s.position bytes) (Some n)) (c.moment_or_now-moment.ensures.value next gives) in
+    let leaves = subst (λ (x : Feed). LeavesOnly H.moment H.left_since mid new (Prefix s x)) feed went.0 in
+    let ends = subst (λ (x : Feed). EndGoes (Err why) s x c.follow_mails_to_end.new.follower (H.may_leave new)) feed went.1 in
+    rw (p.1, p.2) (
+      follow_leaves H.moment H.left_since (H.may_leave old) given old mid new s b.stand_is began.0 leaves,
+      halts_stop given s b.stand_is (H.may_leave new) b.own (fits_alone given s b.own b.within refl) why c.in_err-follow_mails_to_end.ensures.possible ends,
+    )
+
+pub returns-clause-goes : goal.returns-clause-goes
+returns-clause-goes g c = λ bytes places next known seen gives.
+    let H = g.H.Shelf in
+    let me = c.args.me.now in
+    let given = given_of me c.args.at bytes None places next in
+    let f = c.in_ok-follower.follower in
+    let s = f.keeper.state in
+    let old = c.args.shelf.now in
+    let mid = c.begin.new.shelf in
+    let new = c.follow_mails_to_end.new.shelf in
+    let began = c.in_ok-follower.ensures.goes bytes places known seen in
+    let b = began.1 in
+    let went = c.in_ok-follow_mails_to_end.ensures.goes b.rest (mails_left s.position bytes) b.left_is (sym b.ahead) (own_state me s (H.seen mid) b.own b.known) in
+    let feed : mails_feed s (mails_left s.position bytes) (Some c.moment_or_now-moment.result) ≡ changes given s =
+    ap (λ (n : ℕ). mails_feed s (mails_left s.position bytes) (Some n)) (c.moment_or_now-moment.ensures.value next gives) in
+    let leaves = subst (λ (x : Feed). LeavesOnly H.moment H.left_since mid new (Prefix s x)) feed went.0 in
+    let ends = subst (λ (x : Feed). EndGoes (Ok tt) s x c.follow_mails_to_end.new.follower (H.may_leave new)) feed went.1 in (
+      follow_leaves H.moment H.left_since (H.may_leave old) given old mid new s b.stand_is began.0 leaves,
+      goes_to_end given s b.stand_is (H.may_leave new) b.own (fits_alone given s b.own b.within refl) c.follow_mails_to_end.new.follower ends,
+    )
+
+pub returns-in_err-follower-clause-cause : goal.returns-in_err-follower-clause-cause
+returns-in_err-follower-clause-cause g c =
+    let p = err_from_is_err_and c.from_residual.result c.from_residual.ensures.1 in
+    rw (p.1, p.2) c.in_err-follower.ensures.cause
+
+pub returns-in_err-follow_mails_to_end-clause-cause : goal.returns-in_err-follow_mails_to_end-clause-cause
+returns-in_err-follow_mails_to_end-clause-cause g c =
+    let p = err_from_is_err_and c.from_residual-in_err-follow_mails_to_end.result c.from_residual-in_err-follow_mails_to_end.ensures.1 in
+    let M = g.M.Source in
+    let H = g.H.Shelf in
+    let old = M.left c.args.mbox.now in
+    let mid = M.left c.begin.new.mbox in
+    let after = M.left c.follow_mails_to_end.new.mbox in
+    let began = c.in_ok-follower.ensures in
+    let went = c.in_err-follow_mails_to_end.ensures in
+    let new = c.follow_mails_to_end.new.follower in
+    let why = c.in_err-follow_mails_to_end.field-0.0 in
+    let took = took_more old mid after (mbox.buffered c.in_ok-follower.follower.mbox) (mbox.buffered new.mbox) mbox_budget began.mbox_took went.took in
+    let here = caused _ ⊥ _ (TakesAll old after mbox_budget) ⊥ new c.args.me.now why went.cause (λ all. took_all old after (mbox.buffered new.mbox) mbox_budget all took)
+    (λ all. some_left new.lines c.in_ok-follower.follower.lines went.lines began.lines.1 began.lines.2 all) in
+    rw (p.1, p.2) (cause_later (M.faults c.args.mbox.now) (M.faults c.begin.new.mbox) (M.faults c.follow_mails_to_end.new.mbox) ⊥
+    (H.faults c.args.shelf.now) (H.faults c.begin.new.shelf) (H.faults c.follow_mails_to_end.new.shelf) (TakesAll old after mbox_budget) ⊥ (refusal_of c.args.me.now why) began.mbox_later began.shelf_later here)
+
+pub returns-in_err-follow_mails_to_end-clause-took : goal.returns-in_err-follow_mails_to_end-clause-took
+returns-in_err-follow_mails_to_end-clause-took g c =
+    let left = g.M.Source.left in
+    let new = mbox.buffered c.follow_mails_to_end.new.follower.mbox in
+    took_within (left c.args.mbox.now) (left c.follow_mails_to_end.new.mbox) new mbox_budget
+    (took_more (left c.args.mbox.now) (left c.begin.new.mbox) (left c.follow_mails_to_end.new.mbox) (mbox.buffered c.in_ok-follower.follower.mbox) new mbox_budget
+    c.in_ok-follower.ensures.mbox_took c.in_err-follow_mails_to_end.ensures.took)
+
+pub returns-clause-took : goal.returns-clause-took
+returns-clause-took g c =
+    let left = g.M.Source.left in
+    let new = mbox.buffered c.follow_mails_to_end.new.follower.mbox in
+    took_within (left c.args.mbox.now) (left c.follow_mails_to_end.new.mbox) new mbox_budget
+    (took_more (left c.args.mbox.now) (left c.begin.new.mbox) (left c.follow_mails_to_end.new.mbox) (mbox.buffered c.in_ok-follower.follower.mbox) new mbox_budget
+    c.in_ok-follower.ensures.mbox_took c.in_ok-follow_mails_to_end.ensures.took)
