@@ -18,11 +18,11 @@ still_begun (Single a) r c = refl
 still_begun (Group g) r c = elim (is_among r.members c.from) as (λ b. (if b then group_after_member r c else r).begun ≡ r.begun) [ true ↦ refl | false ↦ refl ]
 still_begun (Thread i) r c = refl
 
-begun_all : (key : ChatKey) (r : Roster) (cs : List Card) → (fold (roster_after key) r cs).begun ≡ r.begun
+pub begun_all : (key : ChatKey) (r : Roster) (cs : List Card) → (fold (roster_after key) r cs).begun ≡ r.begun
 begun_all key r [] = refl
 begun_all key r (c ∷ cs) = begun_all key (roster_after key r c) cs ∙ still_begun key r c
 
-begun_first : (me : Bytes) (key : ChatKey) (c : Card) → (roster_begun me key c).begun ≡ true
+pub begun_first : (me : Bytes) (key : ChatKey) (c : Card) → (roster_begun me key c).begun ≡ true
 begun_first me SelfChat c = refl
 begun_first me (Single a) c = refl
 begun_first me (Group g) c = refl

@@ -69,11 +69,25 @@ fn begun_by(alloc: Global, key: &ChatKey, card: &Card, me: &Addr) -> Result<Rost
     })
 }
 
+/// Whether a card says the members of a group anew, where a member sent it.
+pub(crate) fn changes_members(card: &Card) -> bool
+    ensures { result ≡ changes_members card.now }
+{
+    card.added.is_some() || card.removed.is_some()
+}
+
+/// Whether a card says the name of a group anew, where a member sent it.
+pub(crate) fn changes_name(card: &Card) -> bool
+    ensures { result ≡ changes_name card.now }
+{
+    card.renamed && !card.group_name.bytes().is_empty()
+}
+
 /// The members of a group after a card of a member: those that the card lists, where it adds or removes one.
 fn renew_members(alloc: Global, members: &mut Items<Addr>, card: &Card) -> Result<(), Memory>
     ensures { OnOk result (members.new ≡ (if changes_members card.now then listed card.now else members.old)) }
 {
-    if card.added.is_some() || card.removed.is_some() {
+    if changes_members(card) {
         *members = listed(alloc, card)?;
     }
     Ok(())
@@ -83,7 +97,7 @@ fn renew_members(alloc: Global, members: &mut Items<Addr>, card: &Card) -> Resul
 fn renew_name(name: &mut Text, card: &Card) -> Result<(), Memory>
     ensures { OnOk result (name.new ≡ (if changes_name card.now then card.now.group_name else name.old)) }
 {
-    if card.renamed && !card.group_name.bytes().is_empty() {
+    if changes_name(card) {
         *name = card.group_name.copy()?;
     }
     Ok(())
