@@ -1,5 +1,8 @@
 -- Lemmas.
 pub mod States
+pub mod Told
+pub mod Placed
+pub mod Changed
 pub mod Numbered
 pub mod Makers
 pub mod Parts

@@ -1,19 +1,19 @@
 -- The state of a chat with one more card.
-use Rattle.std.proofs.Common.{◌≡◌, refl, sym, ap, ◌∙◌, ℕ, suc, ◌+◌, ◌<◌, Bool, true, false, cond, Option, Some, is_some, List, [], ◌∷◌, ◌++◌, length, map, arith, append-nil}
+use Rattle.std.proofs.Common.{◌≡◌, refl, sym, ap, ◌∙◌, suc, ◌+◌, ◌<◌, Bool, true, false, cond, Some, is_some, List, [], ◌∷◌, ◌++◌, length, map, arith, append-nil}
 use Rattle.std.specs.Prelude.{if◌then◌else◌, filter}
 use Rattle.std.specs.Option.{option_map, option_map_or}
 use Rattle.std.proofs.lemmas.List.{length-map, map-append}
 use Rattle.std.proofs.lemmas.List.Elements.{filter-append}
 use Rattle.std.proofs.lemmas.List.Sums.{count_by-le-length, sum_by-append}
 use Rattle.card_type.specs.declared.key.ChatKey.{ChatKey}
-use Rattle.card_type.specs.declared.spot.Spot.{Spot}
-use Rattle.mailbox_model.specs.declared.roster.Roster.{Roster}
 use Rattle.mailbox_model.specs.Lists.{Bytes, last_of}
 use Rattle.mailbox_model.specs.Rosters.{roster_of}
 use Rattle.mailbox_model.specs.Rows.{is_new}
 use Rattle.mailbox_model.specs.States.{Shown, last_spot, fresh_among}
 use Rattle.chat_view.specs.declared.state.ChatState.{ChatState}
-use Rattle.chat_view.specs.Standing.{StandsFor, state_of}
+use Rattle.group_roster.specs.Setters.{RestsOn, at, setters_of}
+use Rattle.chat_view.specs.Standing.{StandsFor, placed_at, state_of}
+use Rattle.chat_view.proofs.Told.{cards_same}
 
 pub last_of_more : {X : Type 0} (xs : List X) (x : X) → last_of (xs ++ x ∷ []) ≡ Some x
 last_of_more [] x = refl
@@ -47,15 +47,18 @@ few_fresh me cards s is few =
     omega (arith, few, known, spots, length-map cards (λ c. c.spot), count_by-le-length is_fresh cards)
 
 module _ (me : Bytes) (key : ChatKey) (cards : List Shown) (c : Shown) where
-  pub state_more : (spots : List Spot) (roster : Roster) (last : Option Spot) (fresh : ℕ)
-      → spots ≡ map (λ d. d.spot) cards ++ c.spot ∷ []
-      → roster ≡ roster_of me key (map (λ d. d.card) cards ++ c.card ∷ [])
-      → last ≡ (if is_some c.mark then Some c.spot else last_spot cards)
-      → fresh ≡ (if is_fresh c then suc (fresh_among cards) else fresh_among cards)
-      → record { key = key; spots = spots; roster = roster; last = last; fresh = fresh } ≡ state_of me key (cards ++ c ∷ [])
-  state_more spots roster last fresh spots_are roster_is last_is fresh_is =
-      let spots_all : spots ≡ map (λ d. d.spot) (cards ++ c ∷ []) = spots_are ∙ sym (map-append (λ d. d.spot) cards (c ∷ [])) in
-      let roster_all : roster ≡ roster_of me key (map (λ d. d.card) (cards ++ c ∷ [])) = roster_is ∙ ap (roster_of me key) (sym (map-append (λ d. d.card) cards (c ∷ []))) in
-      let last_all : last ≡ last_spot (cards ++ c ∷ []) = last_is ∙ sym (last_more cards c) in
-      let fresh_all : fresh ≡ fresh_among (cards ++ c ∷ []) = fresh_is ∙ sym (fresh_more cards c) in
-      λ i. record { key = key; spots = spots_all i; roster = roster_all i; last = last_all i; fresh = fresh_all i }
+  pub state_more : (s : ChatState) → s.key ≡ key → s.spots ≡ map (λ d. d.spot) cards ++ c.spot ∷ [] → s.marks ≡ map (λ d. d.mark) cards ++ c.mark ∷ []
+      → RestsOn me key (placed_at cards ++ at c.spot c.card ∷ []) s.roster s.setters
+      → s.last ≡ (if is_some c.mark then Some c.spot else last_spot cards)
+      → s.fresh ≡ (if is_fresh c then suc (fresh_among cards) else fresh_among cards)
+      → s ≡ state_of me key (cards ++ c ∷ [])
+  state_more s key_is spots_are marks_are rests last_is fresh_is =
+      let all = cards ++ c ∷ [] in
+      let placed : placed_at cards ++ at c.spot c.card ∷ [] ≡ placed_at all = sym (map-append (λ d. at d.spot d.card) cards (c ∷ [])) in
+      let spots_all : s.spots ≡ map (λ d. d.spot) all = spots_are ∙ sym (map-append (λ d. d.spot) cards (c ∷ [])) in
+      let marks_all : s.marks ≡ map (λ d. d.mark) all = marks_are ∙ sym (map-append (λ d. d.mark) cards (c ∷ [])) in
+      let roster_all : s.roster ≡ roster_of me key (map (λ d. d.card) all) = rests.roster ∙ ap (λ ps. roster_of me key (map (λ a. a.card) ps)) placed ∙ ap (roster_of me key) (cards_same all) in
+      let setters_all : s.setters ≡ setters_of me key (placed_at all) = rests.setters ∙ ap (setters_of me key) placed in
+      let last_all : s.last ≡ last_spot all = last_is ∙ sym (last_more cards c) in
+      let fresh_all : s.fresh ≡ fresh_among all = fresh_is ∙ sym (fresh_more cards c) in
+      λ i. record { key = key_is i; spots = spots_all i; marks = marks_all i; roster = roster_all i; setters = setters_all i; last = last_all i; fresh = fresh_all i }

@@ -2,3 +2,4 @@
 pub mod Standing
 pub mod Makers
 pub mod Parts
+pub mod Changes

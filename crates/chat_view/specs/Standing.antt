@@ -7,7 +7,12 @@ use Rattle.card_type.specs.declared.key.ChatKey.{ChatKey}
 use Rattle.mailbox_model.specs.Lists.{Bytes}
 use Rattle.mailbox_model.specs.Rosters.{roster_of}
 use Rattle.mailbox_model.specs.States.{Shown, last_spot, fresh_among}
+use Rattle.group_roster.specs.Setters.{At, at, setters_of}
 use Rattle.chat_view.specs.declared.state.ChatState.{ChatState}
+
+-- the cards at their spots
+abbrev pub placed_at : List Shown → List At
+placed_at cards = map (λ c. at c.spot c.card) cards
 
 -- the state of a chat with these cards
 abbrev pub state_of : Bytes → ChatKey → List Shown → ChatState
@@ -15,7 +20,9 @@ state_of me key cards =
     record {
       key = key;
       spots = map (λ c. c.spot) cards;
+      marks = map (λ c. c.mark) cards;
       roster = roster_of me key (map (λ c. c.card) cards);
+      setters = setters_of me key (placed_at cards);
       last = last_spot cards;
       fresh = fresh_among cards;
     }

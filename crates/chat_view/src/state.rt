@@ -5,10 +5,10 @@ ghost use Rattle.mailbox_model.specs.Rows.{is_new};
 ghost use Rattle.mailbox_model.specs.States.{Shown};
 ghost use Rattle.chat_view.specs.Standing.{StandsFor, shown};
 
+use crate::series::Series;
 use card_type::{Card, ChatKey, Spot};
-use group_roster::{add, begin};
+use group_roster::{Setters, add_at, begin};
 use kit::{Addr, Memory};
-use lists::Items;
 use mailbox_model::{Mark, Roster};
 use std::alloc::Global;
 
@@ -18,9 +18,13 @@ pub struct ChatState {
     /// The key of the chat.
     pub key: ChatKey,
     /// The spots of its cards, in mail order.
-    pub spots: Items<Spot>,
+    pub spots: Series<Spot>,
+    /// The marks of the rows of its cards, in mail order; `None` where a card is not shown.
+    pub marks: Series<Option<Mark>>,
     /// Who is in it, how it is called, and when its mails vanish.
     pub roster: Roster,
+    /// The cards on which the roster rests.
+    pub setters: Setters,
     /// The spot of the last card that is shown; `None` where none is.
     pub last: Option<Spot>,
     /// How many shown cards are received and unseen.
@@ -62,8 +66,10 @@ impl ChatState {
         let roster = begin(alloc, &key, me)?;
         Ok(ChatState {
             key,
-            spots: Items::new(alloc),
+            spots: Series::new(alloc),
+            marks: Series::new(alloc),
             roster,
+            setters: Setters::new(alloc),
             last: None,
             fresh: 0,
         })
@@ -89,7 +95,16 @@ impl ChatState {
             → StandsFor me.now (cards ++ shown spot.now card.now mark ∷ []) self.new) }
     {
         self.spots.push(spot.copy()?)?;
-        add(alloc, &mut self.roster, &self.key, card, me)?;
+        self.marks.push(mark)?;
+        add_at(
+            alloc,
+            &mut self.roster,
+            &mut self.setters,
+            &self.key,
+            spot,
+            card,
+            me,
+        )?;
         renew_last(&mut self.last, spot, mark)?;
         self.fresh = fresh_with(self.fresh, mark);
         Ok(())
