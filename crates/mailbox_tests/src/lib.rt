@@ -27,3 +27,5 @@ mod rosters;
 mod rows;
 #[cfg(test)]
 mod split_sink;
+#[cfg(test)]
+mod states;

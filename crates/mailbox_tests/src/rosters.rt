@@ -9,21 +9,21 @@ use std::test::Fail;
 
 /// What a mail says that rosters look at.
 #[derive(Clone, Copy)]
-struct Said<'a> {
-    from: &'a str,
-    to: &'a [&'a str],
-    cc: &'a [&'a str],
-    chat: bool,
-    name: &'a str,
-    renamed: bool,
-    added: Option<&'a str>,
-    removed: Option<&'a str>,
-    timer: u32,
-    subject: &'a str,
+pub(crate) struct Said<'a> {
+    pub(crate) from: &'a str,
+    pub(crate) to: &'a [&'a str],
+    pub(crate) cc: &'a [&'a str],
+    pub(crate) chat: bool,
+    pub(crate) name: &'a str,
+    pub(crate) renamed: bool,
+    pub(crate) added: Option<&'a str>,
+    pub(crate) removed: Option<&'a str>,
+    pub(crate) timer: u32,
+    pub(crate) subject: &'a str,
 }
 
 /// The mail G1 of Ann, which founds the group Trip.
-const G1: Said<'static> = Said {
+pub(crate) const G1: Said<'static> = Said {
     from: "ann@x.org",
     to: &["me@x.org", "bob@x.org"],
     cc: &[],
@@ -37,14 +37,14 @@ const G1: Said<'static> = Said {
 };
 
 /// The mail G2, in which Ann adds Cid.
-const G2: Said<'static> = Said {
+pub(crate) const G2: Said<'static> = Said {
     to: &["me@x.org", "bob@x.org", "cid@x.org"],
     added: Some("cid@x.org"),
     ..G1
 };
 
 /// The mail G3, in which Ann removes Bob.
-const G3: Said<'static> = Said {
+pub(crate) const G3: Said<'static> = Said {
     to: &["me@x.org", "bob@x.org", "cid@x.org"],
     removed: Some("bob@x.org"),
     ..G1
@@ -59,7 +59,7 @@ const G0: Said<'static> = Said {
 };
 
 /// A mail of Bob to the group, which says nothing more.
-const BY_BOB: Said<'static> = Said {
+pub(crate) const BY_BOB: Said<'static> = Said {
     from: "bob@x.org",
     to: &["me@x.org", "ann@x.org"],
     ..G1
@@ -439,7 +439,7 @@ fn addr_option(alloc: Global, text: Option<&str>) -> Result<Option<Addr>, Fail> 
 }
 
 /// The card of a mail that says this.
-fn card(alloc: Global, said: &Said) -> Result<Card, Fail> {
+pub(crate) fn card(alloc: Global, said: &Said) -> Result<Card, Fail> {
     let to = addrs(alloc, said.to)?;
     let cc = addrs(alloc, said.cc)?;
     let name = text(alloc, said.name)?;
