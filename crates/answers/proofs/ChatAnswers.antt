@@ -22,7 +22,7 @@ use Rattle.answers.specs.Answers.{Puts, answer_of, ask_fault, print_fault}
 use Rattle.answers.proofs.KeyLaws.{IsKey}
 use Rattle.answers.proofs.NamedChats.{chat_answer, no_page_of_text, page_of_text}
 
-puts_memory : (a : Result Bytes AnswerFault) (old new : Option Bytes) → Puts a old new (Err fault.Memory)
+pub puts_memory : (a : Result Bytes AnswerFault) (old new : Option Bytes) → Puts a old new (Err fault.Memory)
 puts_memory (Ok text) old new = tt
 puts_memory (Err why) old new = tt
 

@@ -45,7 +45,7 @@ one_text (Thread a) (Single b) e = absurd (omega (arith, ap (λ t. get_or t 1 0)
 one_text (Thread a) (Group b) e = absurd (omega (arith, ap (λ t. get_or t 1 0) e))
 
 -- the key is found where it is there
-found : (key : ChatKey) (text : Bytes) → key_text key ≡ text → (ks : List ChatKey)
+pub found : (key : ChatKey) (text : Bytes) → key_text key ≡ text → (ks : List ChatKey)
     → find (λ k. bytes_eq (key_text k) text) ks ≡ (if list_any (key_eq key) ks then Some key else None)
 found key text e [] = refl
 found key text e (k ∷ ks) = by (bytes_eq (key_text k) text) (key_eq key k) (λ h. key_same key k h) (λ h. one_text k key ((bytes_decides (key_text k) text).0 h ∙ sym e))

@@ -1,5 +1,5 @@
 -- The text that answers a question, and what was put of it.
-use Rattle.std.specs.Prelude.{◌≡◌, bytes_eq, find, Option, Result, Ok, Err, ok_or, ⊤}
+use Rattle.std.specs.Prelude.{◌≡◌, Bool, true, false, not, ◌||◌, bytes_eq, find, Option, Result, Ok, Err, ok_or, ⊤}
 use Rattle.std.specs.Io.KnownBytes.{Appends}
 use Rattle.kit.specs.Options.{◌>>=◌}
 use Rattle.kit.specs.Ids.{is_id}
@@ -9,6 +9,7 @@ use Rattle.outside.specs.declared.faults.PrintFault.{PrintFault}
 use Rattle.outside.specs.declared.faults.PrintFault.TheVariants as print
 use Rattle.card_type.specs.declared.key.ChatKey.{ChatKey}
 use Rattle.card_type.specs.KeyTexts.{key_text}
+use Rattle.mailbox_model.specs.declared.row.UpdateRow.{UpdateRow}
 use Rattle.mailbox_model.specs.Answers as model
 use Rattle.mailbox_model.specs.Lists.{Bytes}
 use Rattle.mailbox_model.specs.Mailbox.{Mailbox}
@@ -24,13 +25,22 @@ use Rattle.answers.specs.declared.question.Question.TheVariants as question
 abbrev pub named_key : Mailbox → Bytes → Option ChatKey
 named_key m text = find (λ key. bytes_eq (key_text key) text) (keys m)
 
+-- whether an update is wanted: each is, or where an info is asked for, one that has an info
+abbrev pub is_wanted : Bool → UpdateRow → Bool
+is_wanted info row = not info || model.has_info row
+
+-- the updates of an app: all, or those that have an info
+abbrev pub updates_asked : Bool → Bytes → model.Question
+updates_asked false id = model.AllUpdates id
+updates_asked true id = model.InfoUpdates id
+
 -- The text, by the definition of the mailbox, or why there is none: no chat in the list has the key, or no shown app the id.
 -- The list and the contacts are always there.
 abbrev pub answer_of : Mailbox → Question → Result Bytes AnswerFault
 answer_of m question.List = ok_or (model.answer m model.AllChats) fault.NoChat
 answer_of m question.Contacts = ok_or (model.answer m model.AllContacts) fault.NoChat
 answer_of m (question.Chat text) = ok_or (named_key m text >>= λ key. model.answer m (model.OneChat key)) fault.NoChat
-answer_of m (question.Updates text) = ok_or (read_as is_id text >>= λ id. model.answer m (model.AllUpdates id)) fault.NoApp
+answer_of m (question.Updates text info) = ok_or (read_as is_id text >>= λ id. model.answer m (updates_asked info id)) fault.NoApp
 
 -- At Ok the answer was put whole, and at Write a prefix of it. Any other reason but memory is the one that the mailbox gives.
 abbrev pub Puts : Result Bytes AnswerFault → Option Bytes → Option Bytes → Result Unit AnswerFault → Type 0

@@ -1,2 +1,3 @@
 -- What public clauses cite.
 pub mod Answers
+pub mod Costs

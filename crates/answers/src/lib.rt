@@ -4,6 +4,7 @@
 mod fault;
 mod print;
 mod question;
+mod wanted;
 
 pub use fault::AnswerFault;
 pub use print::print_answer;

@@ -1,17 +1,19 @@
 //! Printing the answer to a question.
-ghost use Rattle.std.specs.Prelude.{◌≡◌, ◌≤◌, ◌≢◌, IfErr, IsErrOf};
+ghost use Rattle.std.specs.Prelude.{◌≡◌, ◌≤◌, ◌≢◌, ◌+◌, IfErr, IsErrOf};
 ghost use Rattle.outside.specs.Causes.{Rose};
 ghost use Rattle.answers.specs.Answers.{answer_of, Puts};
+ghost use Rattle.answers.specs.Costs.{answer_cost};
 ghost use Rattle.answers.specs.declared.fault.AnswerFault.TheVariants as fault;
 ghost use Rattle.answers.specs.declared.question.Question.TheVariants as question;
 
 use crate::fault::AnswerFault;
 use crate::question::Question;
+use crate::wanted::Wanted;
+use app_listener::Listener;
 use card_type::ChatKey;
 use chat_print::{pages_have_moments, print_chat, print_contacts, print_list, print_updates};
 use engine::Engine;
 use kit::{Id, Steps, Text};
-use mailbox_model::a_mailbox_is_bounded;
 use outside::Sink;
 use std::alloc::Global;
 use std::sync::ledger::Ledger;
@@ -25,6 +27,7 @@ use std::sync::ledger::Ledger;
 /// - `puts`: the whole answer was put, or at `Write` a prefix of it; where there is none, the reason is the one that the
 ///   mailbox gives.
 /// - `nothing`: at every other refusal nothing was put.
+/// - `cost`: it reads kept cards no more often than the cost of the answer says.
 pub fn print_answer<K: Sink, L: Ledger>(
     alloc: Global,
     engine: &Engine,
@@ -36,12 +39,15 @@ pub fn print_answer<K: Sink, L: Ledger>(
     ensures cause { IsErrOf result AnswerFault.Write → Rose (K.faults out.old) (K.faults out.new) }
     ensures nothing { IfErr result (λ why. why ≢ fault.Write → out.new ≡ out.old) }
     ensures later { K.faults out.old ≤ K.faults out.new }
+    ensures cost { steps.new ≤ steps.old + answer_cost engine.now.mailbox question.now }
 {
     match question {
         Question::List => print_the_list(alloc, engine, out, steps),
         Question::Contacts => print_the_contacts(alloc, engine, out),
         Question::Chat(text) => print_the_chat(alloc, engine, text, out, steps),
-        Question::Updates(id) => print_the_updates(alloc, engine, id, out, steps),
+        Question::Updates { id, info } => {
+            print_the_updates(alloc, engine, id, *info, out, steps)
+        }
     }
 }
 
@@ -56,6 +62,7 @@ fn print_the_list<K: Sink, L: Ledger>(
     ensures cause { IsErrOf result AnswerFault.Write → Rose (K.faults out.old) (K.faults out.new) }
     ensures nothing { IfErr result (λ why. why ≢ fault.Write → out.new ≡ out.old) }
     ensures later { K.faults out.old ≤ K.faults out.new }
+    ensures cost { steps.new ≤ steps.old + answer_cost engine.now.mailbox question.List }
 {
     // For its clause `rules`: the dates of a mailbox are moments.
     let _me = engine.mailbox().me();
@@ -91,6 +98,7 @@ fn print_the_chat<K: Sink, L: Ledger>(
     ensures cause { IsErrOf result AnswerFault.Write → Rose (K.faults out.old) (K.faults out.new) }
     ensures nothing { IfErr result (λ why. why ≢ fault.Write → out.new ≡ out.old) }
     ensures later { K.faults out.old ≤ K.faults out.new }
+    ensures cost { steps.new ≤ steps.old + answer_cost engine.now.mailbox (question.Chat text.now) }
 {
     // For its clause `rules`: the dates of a mailbox are moments, and its keys are keys.
     let _me = engine.mailbox().me();
@@ -102,25 +110,25 @@ fn print_the_chat<K: Sink, L: Ledger>(
     Ok(print_chat(alloc, &page, out)?)
 }
 
-/// Prints the updates of the app with this id.
+/// Prints the updates of the app with this id: all, or only those that have an info.
 fn print_the_updates<K: Sink, L: Ledger>(
     alloc: Global,
     engine: &Engine,
     id: &Text,
+    info: bool,
     out: &mut K,
     steps: &mut Steps<L>,
 ) -> Result<(), AnswerFault>
-    ensures puts { Puts (answer_of engine.now.mailbox (question.Updates id.now)) (K.held out.old) (K.held out.new) result }
+    ensures puts { Puts (answer_of engine.now.mailbox (question.Updates id.now info)) (K.held out.old) (K.held out.new) result }
     ensures cause { IsErrOf result AnswerFault.Write → Rose (K.faults out.old) (K.faults out.new) }
     ensures nothing { IfErr result (λ why. why ≢ fault.Write → out.new ≡ out.old) }
     ensures later { K.faults out.old ≤ K.faults out.new }
+    ensures cost { steps.new ≤ steps.old + answer_cost engine.now.mailbox (question.Updates id.now info) }
 {
-    // For its clause `rules`: no app of a mailbox has 2^32 updates.
-    let _me = engine.mailbox().me();
-    a_mailbox_is_bounded();
     let Some(id) = Id::read(alloc, id.bytes())? else {
         return Err(AnswerFault::NoApp);
     };
-    let rows = engine.updates(&id, steps)?;
-    Ok(print_updates(alloc, rows.as_slice(), rows.len() as u32, out)?)
+    let mut listener = Listener::new(alloc, id, 0, Wanted { info });
+    let heard = listener.hear(engine, steps)?;
+    Ok(print_updates(alloc, heard.rows.as_slice(), heard.max, out)?)
 }

@@ -11,6 +11,6 @@ pub enum Question {
     Contacts,
     /// The page of the chat whose key has this text.
     Chat(Text),
-    /// The updates of the app in the mail with this id.
-    Updates(Text),
+    /// The updates of the app in the mail with this id: all, or only those that have an info.
+    Updates { id: Text, info: bool },
 }

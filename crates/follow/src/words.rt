@@ -234,7 +234,7 @@ impl Command {
         }
     }
 
-    /// What this command asks of a mailbox: nothing yet where it is a trial, or the updates that have an info alone.
+    /// What this command asks of a mailbox: nothing yet where it is a trial.
     pub fn question(self) -> Option<Question>
         ensures { result ≡ question_of self }
     {
@@ -242,8 +242,8 @@ impl Command {
             Command::List => Some(Question::List),
             Command::Contacts => Some(Question::Contacts),
             Command::Chat(key) => Some(Question::Chat(key)),
-            Command::Updates { id, info: false } => Some(Question::Updates(id)),
-            Command::Updates { info: true, .. } | Command::Trial(_) => None,
+            Command::Updates { id, info } => Some(Question::Updates { id, info }),
+            Command::Trial(_) => None,
         }
     }
 }

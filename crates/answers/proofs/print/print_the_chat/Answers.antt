@@ -1,6 +1,7 @@
 use Rattle.std.proofs.lemmas.Result.{err_from_is_err_and}
 use Rattle.std.proofs.Common.{Err, ap, subst}
 use Rattle.mailbox_model.specs.Mailbox.{IsMailbox}
+use Rattle.answers.proofs.AnswerCosts.{within_cost}
 use Rattle.answers.proofs.ChatAnswers.{its_key, no_answer, no_key, not_asked, not_printed, printed}
 use Rattle.answers.proofs.print.print_the_chat.Goals as goal
 
@@ -26,3 +27,18 @@ pub returns-clause-puts : goal.returns-clause-puts
 returns-clause-puts g c =
     let key = its_key c.in_ok-key.field-0 c.in-Some.key c.bytes.result.now c.args.text.now c.in-Some.is c.bytes.ensures.same c.in_ok-key.ensures.text in
     printed c.args.engine.now.mailbox c.in-Some.key c.args.text.now c.in_ok-page.page _ _ key c.in_ok-page.ensures.page c.in_ok-print_chat.ensures.ok
+
+pub returns-in_err-page-clause-cost : goal.returns-in_err-page-clause-cost
+returns-in_err-page-clause-cost g c =
+    let key = its_key c.in_ok-key.field-0 c.in-Some.key c.bytes.result.now c.args.text.now c.in-Some.is c.bytes.ensures.same c.in_ok-key.ensures.text in
+    within_cost c.args.engine.now.mailbox c.in-Some.key c.args.text.now c.args.steps.now c.chat.new.steps key c.in_err-page.ensures.cost
+
+pub returns-in_err-print_chat-clause-cost : goal.returns-in_err-print_chat-clause-cost
+returns-in_err-print_chat-clause-cost g c =
+    let key = its_key c.in_ok-key.field-0 c.in-Some.key c.bytes.result.now c.args.text.now c.in-Some.is c.bytes.ensures.same c.in_ok-key.ensures.text in
+    within_cost c.args.engine.now.mailbox c.in-Some.key c.args.text.now c.args.steps.now c.chat.new.steps key c.in_ok-page.ensures.cost
+
+pub returns-clause-cost : goal.returns-clause-cost
+returns-clause-cost g c =
+    let key = its_key c.in_ok-key.field-0 c.in-Some.key c.bytes.result.now c.args.text.now c.in-Some.is c.bytes.ensures.same c.in_ok-key.ensures.text in
+    within_cost c.args.engine.now.mailbox c.in-Some.key c.args.text.now c.args.steps.now c.chat.new.steps key c.in_ok-page.ensures.cost
