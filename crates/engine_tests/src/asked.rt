@@ -17,14 +17,14 @@ use std::test::Fail;
 use worked_mails::*;
 
 /// 2024-05-01 12:00:00 UTC.
-const NOON: u64 = 1_714_564_800;
+pub(crate) const NOON: u64 = 1_714_564_800;
 
 /// 2024-05-02 16:00:00 UTC.
 const NEXT_DAY: u64 = 1_714_665_600;
 
 /// What happens to a mailbox.
 #[derive(Clone, Copy)]
-enum Step {
+pub(crate) enum Step {
     /// This mail arrives.
     Next(&'static str),
     Expunge(u32),
@@ -339,6 +339,19 @@ fn takes<L: Ledger>(
     Ok(())
 }
 
+/// Takes these steps, one after the other.
+pub(crate) fn takes_all<L: Ledger>(
+    alloc: Global,
+    engine: &mut Engine,
+    taken: &[Step],
+    steps: &mut Steps<L>,
+) -> Result<(), Fail> {
+    for step in taken {
+        takes(alloc, engine, *step, steps)?;
+    }
+    Ok(())
+}
+
 /// An engine after these steps.
 fn followed<L: Ledger>(
     alloc: Global,
@@ -346,9 +359,7 @@ fn followed<L: Ledger>(
     steps: &mut Steps<L>,
 ) -> Result<Engine, Fail> {
     let mut engine = Engine::new(alloc, addr(alloc, "me@x.org")?);
-    for step in taken {
-        takes(alloc, &mut engine, *step, steps)?;
-    }
+    takes_all(alloc, &mut engine, taken, steps)?;
     Ok(engine)
 }
 

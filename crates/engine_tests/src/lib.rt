@@ -4,6 +4,8 @@
 #[cfg(test)]
 mod asked;
 #[cfg(test)]
+mod listeners;
+#[cfg(test)]
 mod made;
 #[cfg(test)]
 mod trial;

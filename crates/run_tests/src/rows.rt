@@ -171,7 +171,7 @@ pub const TIMER: [Row; 2] = [
 ];
 
 /// A mail that is not seen, receipts, updates, and a mail without a sender.
-const SINGLE: [Row; 4] = [
+const SINGLE: [Row; 5] = [
     (
         &[T1],
         Some("at 900\nnext\nat 9999\n"),
@@ -209,6 +209,21 @@ const SINGLE: [Row; 4] = [
         ],
         "1/3 bob@x.org | payload {\"move\":1} | info e4\n\
          2/3 bob@x.org | payload {\"move\":2}\n\
+         3/3 bob@x.org | payload {\"move\":3} | info Nf3\n",
+    ),
+    (
+        &[A1, U1, U3, U2],
+        None,
+        &[
+            "--me",
+            "me@x.org",
+            "--at",
+            "1714564800",
+            "updates",
+            "a1@x.org",
+            "--info",
+        ],
+        "1/3 bob@x.org | payload {\"move\":1} | info e4\n\
          3/3 bob@x.org | payload {\"move\":3} | info Nf3\n",
     ),
     (

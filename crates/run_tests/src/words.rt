@@ -61,16 +61,14 @@ const NO_COMMANDS: [&str; 41] = [
 ];
 
 /// Words of commands that are not answered yet.
-const NOT_BUILT: [&str; 5] = [
-    "--me me@x.org updates m1@x.org --info",
-    "--me me@x.org updates --info m1@x.org",
+const NOT_BUILT: [&str; 3] = [
     "--me me@x.org trial 7",
     "--me me@x.org trial 00000000000000000007",
     "--me me@x.org trial 18446744073709551615",
 ];
 
 /// Words that ask for a chat or an app that is not there, and the status.
-const NOT_THERE: [(&str, Status, &str); 6] = [
+const NOT_THERE: [(&str, Status, &str); 8] = [
     (
         "--me me@x.org --at 1714564800 chat group:unknown00001",
         Status::NoChat,
@@ -98,6 +96,16 @@ const NOT_THERE: [(&str, Status, &str); 6] = [
     ),
     (
         "--me me@x.org --at 1714564800 updates <m1@x.org>",
+        Status::NoApp,
+        NO_APP,
+    ),
+    (
+        "--me me@x.org --at 1714564800 updates m1@x.org --info",
+        Status::NoApp,
+        NO_APP,
+    ),
+    (
+        "--me me@x.org --at 1714564800 updates --info m1@x.org",
         Status::NoApp,
         NO_APP,
     ),
