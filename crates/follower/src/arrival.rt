@@ -27,7 +27,7 @@ fn arrival_of_mail(alloc: Global, uid: u32, mail: &[u8]) -> Result<Change, Memor
 
 /// The arrival of what was taken of an mbox, if that was a mail, which gets this uid. Takes memory; `Err` only when it
 /// runs out.
-pub(crate) fn arrival_of(alloc: Global, uid: u32, taken: Taken) -> Result<Option<Change>, Memory>
+pub fn arrival_of(alloc: Global, uid: u32, taken: Taken) -> Result<Option<Change>, Memory>
     ensures change { IfOk result (λ change. change ≡ arrival_taken uid taken) }
     ensures valid { IfOk result (λ change. IfSome change IsValidChange) }
 {

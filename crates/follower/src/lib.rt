@@ -9,6 +9,7 @@ mod laws;
 mod position;
 mod turns;
 
+pub use arrival::arrival_of;
 pub use fault::{Input, RunFault};
 pub use follower::{Follower, Turned};
 pub use laws::changes_go_on;
