@@ -1,0 +1,7 @@
+-- Lemmas, and worked rows of the definitions.
+pub mod AheadLaws
+pub mod ArrivalLaws
+pub mod Bounds
+pub mod PageLaws
+pub mod PutLaws
+mod Rows
