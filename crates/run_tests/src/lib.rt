@@ -1,5 +1,5 @@
-//! Tests of the devices, of images, of slots, of the tail, of the keeper, of whole runs, and of runs that go on from what
-//! is kept. It has no code of its own.
+//! Tests of the devices, of images, of slots, of the tail, of the keeper, of trials, of whole runs, and of runs that go on
+//! from what is kept. It has no code of its own.
 #![tactic(auto)]
 
 #[cfg(test)]
@@ -28,5 +28,7 @@ mod steps;
 mod stopped;
 #[cfg(test)]
 mod tail;
+#[cfg(test)]
+mod trial;
 #[cfg(test)]
 mod words;
