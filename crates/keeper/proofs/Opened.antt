@@ -4,6 +4,7 @@ use Rattle.outside.specs.Places.{Places}
 use Rattle.outside.specs.Moments.{KnownThen, WhereKnown}
 use Rattle.mailbox_model.specs.Lists.{Bytes}
 use Rattle.box_state.specs.Kept.{Kept}
+use Rattle.engine.specs.Costs.{load}
 use Rattle.state_image.specs.declared.position.Position.{Position}
 use Rattle.state_store.specs.States.{State}
 use Rattle.state_store.specs.Stands.{Found, found_of, stand_of, stands}
@@ -13,7 +14,7 @@ use Rattle.state_store.proofs.Appending.{is_settled}
 use Rattle.keeper.specs.declared.fault.KeepFault.{KeepFault}
 use Rattle.keeper.specs.declared.fault.KeepFault.TheVariants as fault
 use Rattle.keeper.specs.Keeping.{Keeping, IsKept}
-use Rattle.keeper.specs.Opening.{AllFindSame, OnOtherMe, state_of}
+use Rattle.keeper.specs.Opening.{AllFindSame, OnOtherMe, load_of, state_of}
 use Rattle.keeper.specs.Pending.{none_pending}
 use Rattle.keeper.proofs.Keeping.{kept_alone}
 
@@ -39,3 +40,8 @@ module _ (old new : Option Places) (same : KnownThen old new SameFound) where
       let before = same.back places is in
       kept_alone k places none (ap (λ (s : State). stands s.mailbox.me places) state ∙ ap (λ (me : Bytes). stands me places) whose
       ∙ ap (stand_of me) (before.holds ∙ finds before.places before.is) ∙ stood ∙ ap (λ (s : State). Ok s) (sym state))
+
+-- what the state that stands takes to be opened
+pub load_is : (me : Bytes) (places : Places) (found : Found) (kept : Kept × Position) → found_of places ≡ Ok found → stand_of me (Ok found) ≡ Ok (state_of kept)
+    → load_of (stands me places) ≡ load kept.0.mailbox
+load_is me places found kept finds stood = ap load_of (ap (stand_of me) finds ∙ stood)

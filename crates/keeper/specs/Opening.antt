@@ -5,6 +5,7 @@ use Rattle.outside.specs.Places.{Places}
 use Rattle.mailbox_model.specs.Lists.{Bytes}
 use Rattle.mailbox_model.specs.Mailbox.{Mailbox}
 use Rattle.box_state.specs.Kept.{Kept}
+use Rattle.engine.specs.Costs.{load}
 use Rattle.state_image.specs.declared.position.Position.{Position}
 use Rattle.state_store.specs.States.{State}
 use Rattle.state_store.specs.Stands.{in_tail}
@@ -48,6 +49,11 @@ AllFindSame outcomes places = (c : Places) → outcomes c → SameFound places c
 abbrev pub Opens : Bytes → Result Keeping KeepFault → Result State (Place × ℕ) → Type 0
 Opens me (Ok k) stand = (stand ≡ Ok k.state) × (k.state.mailbox.me ≡ me)
 Opens me (Err why) stand = IsOpenCause me stand why
+
+-- how many reads of kept cards the state that stands takes to be opened
+abbrev pub load_of : Result State (Place × ℕ) → ℕ
+load_of (Ok s) = load s.mailbox
+load_of (Err damage) = 0
 
 -- ---- from what is kept to what stands
 

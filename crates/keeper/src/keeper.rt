@@ -85,10 +85,10 @@ fn has_offsets(position: Position)
 impl Keeper {
     ghost use Rattle.engine.specs.Costs.{load};
     ghost use Rattle.keeper.specs.Keeping.{IsWithin};
-    ghost use Rattle.state_image.specs.Images.{image, cards_in};
-    ghost use Rattle.state_store.specs.Commits.{OldOrNew, is_due};
+    ghost use Rattle.keeper.specs.Opening.{load_of};
+    ghost use Rattle.state_store.specs.Commits.{OldOrNew, commit_reads, commit_writes, fill_of, fill_with};
     ghost use Rattle.state_store.specs.Stands.{stands};
-    ghost use Rattle.state_store.specs.Stored.{IsStored, SameFound};
+    ghost use Rattle.state_store.specs.Stored.{IsStored, SameFound, fill_in};
 
     /// Opens what a shelf keeps, for an own address: the state that stands, with no change pending. Where nothing is kept
     /// that is the empty mailbox of the address. Takes memory.
@@ -101,6 +101,7 @@ impl Keeper {
     /// - `any_moment`: a crash at any moment leaves that in which the same is found as in what it might have left at the start.
     /// - `other`: after `OtherMe` each crash outcome has that in which the same is found as in what the reads gave at the start.
     /// - `written`: nothing is written.
+    /// - `load`, `cost`: it reads kept cards no more often than the load of the mailbox says, whatever is answered.
     pub fn open<H: Shelf, L: Ledger>(
         alloc: Global,
         me: &Addr,
@@ -118,7 +119,9 @@ impl Keeper {
             (Reached (H.may_leave shelf.old) SameFound)) }
         ensures other { OnOtherMe result (WhereKnown (H.seen shelf.old) (AllFindSame (H.may_leave shelf.new))) }
         ensures written { H.written shelf.new ≡ H.written shelf.old }
+        ensures fill { IfOk result (λ k. WhereKnown (H.seen shelf.old) (λ places. fill_of k.store ≡ fill_in places)) }
         ensures load { IfOk result (λ k. steps.new ≤ steps.old + load k.state.mailbox) }
+        ensures cost { WhereKnown (H.seen shelf.old) (λ places. steps.new ≤ steps.old + load_of (stands me.now places)) }
         ensures later { H.faults shelf.old ≤ H.faults shelf.new }
         ensures cause { IsErrOf result KeepFault.Disk → Rose (H.faults shelf.old) (H.faults shelf.new) }
     {
@@ -205,8 +208,10 @@ impl Keeper {
     ///
     /// - `any_moment`: a crash at any moment leaves the state of before or that of the keeper.
     /// - `kept`, `stored`, `pending`: after Ok the keeper's state stands, it alone is left, and nothing is pending.
-    /// - `appended`, `saved`: no more is written than 40 bytes beside the changes, or 18 beside the image.
-    /// - `most`: an image reads each kept card once, by the count of steps.
+    /// - `fill`: after Ok the tail has the group too, or after a checkpoint nothing.
+    /// - `written`: no more is written than 40 bytes beside the changes, or where a checkpoint falls due 18 beside the image.
+    /// - `reads`: an image reads each kept card once, and a group none.
+    /// - `few`, `none`: no more than 256 changes are pending, and where none is nothing is done.
     pub fn commit<H: Shelf, L: Ledger>(
         &mut self,
         shelf: &mut H,
@@ -223,14 +228,16 @@ impl Keeper {
         ensures pending { OnOk result (self.new.pending ≡ none_pending) }
         ensures state { self.new.state ≡ self.old.state }
         ensures stale { self.new.stale ≡ self.old.stale }
+        ensures fill { 1 ≤ self.old.pending.count
+            → OnOk result (fill_of self.new.store ≡ fill_with (fill_of self.old.store) (39 + length self.old.pending.bytes)) }
+        ensures none { self.old.pending.count ≡ 0 → (self.new ≡ self.old) × (shelf.new ≡ shelf.old) × (steps.new ≡ steps.old) }
         ensures untouched { IsErrOf result KeepFault.Memory → shelf.new ≡ shelf.old }
-        ensures appended { is_due self.old.store (39 + length self.old.pending.bytes) ≡ false
-            → RisesUpTo (40 + length self.old.pending.bytes) (H.written shelf.old) (H.written shelf.new) × (steps.new ≡ steps.old) }
-        ensures saved { is_due self.old.store (39 + length self.old.pending.bytes) ≡ true
-            → RisesUpTo (length (image self.old.state.mailbox self.old.state.position) + 18) (H.written shelf.old) (H.written shelf.new) }
-        ensures most { steps.new ≤ steps.old + cards_in self.old.state.mailbox }
+        ensures written { RisesUpTo (commit_writes (fill_of self.old.store) (length self.old.pending.bytes) self.old.state)
+            (H.written shelf.old) (H.written shelf.new) }
+        ensures reads { steps.new ≤ steps.old + commit_reads (fill_of self.old.store) (length self.old.pending.bytes) self.old.state }
         ensures later { H.faults shelf.old ≤ H.faults shelf.new }
         ensures cause { IsErrOf result KeepFault.Disk → Rose (H.faults shelf.old) (H.faults shelf.new) }
+        ensures few { self.old.pending.count ≤ 256 }
         ensures undamaged { IfErr result (λ why. (why ≡ fault.Disk) ⊎ (why ≡ fault.Memory)) }
     {
         let n = self.pending.count();

@@ -1,5 +1,5 @@
 -- What an opening finds.
-use Rattle.std.proofs.Common.{◌≡◌, ℕ, List, Option, None, Some, Result, Ok, Err, option_map, refl, sym, ◌∙◌, ap, subst}
+use Rattle.std.proofs.Common.{◌≡◌, ℕ, List, length, Option, None, Some, Result, Ok, Err, option_map, refl, sym, ◌∙◌, ap, subst}
 use Rattle.outside.specs.declared.shelf.Place.{Place}
 use Rattle.outside.specs.declared.shelf.Place.TheVariants.{T}
 use Rattle.outside.specs.Places.{Places, Changes}
@@ -12,9 +12,9 @@ use Rattle.state_image.specs.declared.position.Position.{Position}
 use Rattle.checkpoint.specs.Kept.{kept_of, count_of}
 use Rattle.checkpoint.specs.Saves.{AreSettled}
 use Rattle.tail_journal.specs.Groups.{Applied}
-use Rattle.tail_journal.specs.Read.{groups_from, SameReading}
+use Rattle.tail_journal.specs.Read.{groups_from, EndsThere, SameReading}
 use Rattle.state_store.specs.Stands.{count_in, in_tail, with_groups, with_tail, found_of}
-use Rattle.state_store.specs.Stored.{Fails, SameFound}
+use Rattle.state_store.specs.Stored.{Fails, SameFound, end_of, read_size}
 use Rattle.state_store.specs.declared.fault.StoreFault.{StoreFault}
 use Rattle.state_store.specs.declared.fault.StoreFault.TheVariants as fault
 use Rattle.state_store.proofs.Knowing.{same_found}
@@ -70,3 +70,10 @@ module _ {D : Type 0} (seen : D → Option Places) (may_leave : D → Places →
       and_then moment left_since old mid new (may_leave old) (Reached (may_leave mid) (Changes T (SameReading number))) (Reached (may_leave old) SameFound) first (then_tail at.places at.is)
       (λ c left. let here : SameFound c c = refl in (c, left, here))
       (λ c r. (r.0, back r.0 r.1, finds_same kept number count r.0 (all r.0 r.1) c r.2))
+
+-- ---- how full the store is
+
+-- of a tail that ends where the same is read to its end
+pub size_is : (number : Option ℕ) (old new : List ℕ) (size : ℕ) → SameReading number old new → EndsThere number new → length new ≡ size → size ≡ read_size number old
+size_is None old new size same ends is = sym is ∙ ap length ends
+size_is (Some count) old new size same (r, all) is = sym (ap end_of (sym same ∙ all.is) ∙ all.end ∙ is)

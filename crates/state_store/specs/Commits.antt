@@ -1,9 +1,10 @@
 -- What a commit leaves of the state.
-use Rattle.std.specs.Prelude.{◌≡◌, ◌⊎◌, ◌≤◌, ℕ, ◌+◌, ◌-◌, Bool, not, ◌||◌, nat_lt, List, length, Ok, Some}
+use Rattle.std.specs.Prelude.{◌≡◌, ◌⊎◌, ◌≤◌, ℕ, ◌+◌, ◌-◌, Bool, true, not, ◌||◌, nat_lt, if◌then◌else◌, List, length, Ok, Some}
 use Rattle.outside.specs.Places.{Places}
 use Rattle.mailbox_model.specs.declared.change.Change.{Change}
 use Rattle.mailbox_model.specs.Lists.{Bytes}
 use Rattle.mailbox_model.specs.Mailbox.{after_all, AreAllowed}
+use Rattle.state_image.specs.Images.{image, cards_in}
 use Rattle.state_image.specs.declared.position.Position.{Position}
 use Rattle.checkpoint.specs.Slots.{chosen_of}
 use Rattle.checkpoint.specs.Saves.{IsAbove}
@@ -19,9 +20,34 @@ use Rattle.state_store.specs.declared.store.Store.{Store}
 abbrev pub max_tail : ℕ
 max_tail = 8388608
 
+-- how full a store is: whether a slot is chosen, and how many bytes the tail has
+pub record Fill : Type 0 where
+  pub chosen : Bool
+  pub tail : ℕ
+
+abbrev pub fill_of : Store → Fill
+fill_of store = record { chosen = store.chosen; tail = store.tail.size }
+
 -- A checkpoint falls due where no slot is chosen, or where the tail would have more bytes than it may with the new group.
-abbrev pub is_due : Store → ℕ → Bool
-is_due store group = not store.chosen || nat_lt max_tail (store.tail.size + group)
+abbrev pub falls_due : Fill → ℕ → Bool
+falls_due fill group = not fill.chosen || nat_lt max_tail (fill.tail + group)
+
+-- with the group of a commit: a checkpoint clears the tail
+abbrev pub fill_with : Fill → ℕ → Fill
+fill_with fill group =
+    if falls_due fill group then record { chosen = true; tail = 0 } else record { chosen = fill.chosen; tail = fill.tail + group }
+
+-- ---- what a commit costs
+
+-- It leads to this state by changes that have so many bytes. For an image it reads each kept card once, and for a group none.
+abbrev pub commit_reads : Fill → ℕ → State → ℕ
+commit_reads fill size s = if falls_due fill (39 + size) then cards_in s.mailbox else 0
+
+-- It writes an image and 18 bytes more, or a group, which has 39 bytes beside its changes, and one byte more.
+abbrev pub commit_writes : Fill → ℕ → State → ℕ
+commit_writes fill size s = if falls_due fill (39 + size) then length (image s.mailbox s.position) + 18 else 40 + size
+
+-- ---- what it leaves
 
 -- these changes, with the position after them
 abbrev pub batch_to : Position → List Change → Batch

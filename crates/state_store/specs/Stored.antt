@@ -1,5 +1,5 @@
 -- What a store knows of its shelf, and what an opening answers.
-use Rattle.std.specs.Prelude.{◌≡◌, ℕ, map, is_some, option_map, Result, Ok, Err}
+use Rattle.std.specs.Prelude.{◌≡◌, ℕ, List, map, Option, None, Some, is_some, option_map, Result, Ok, Err}
 use Rattle.outside.specs.declared.shelf.Place.{Place}
 use Rattle.outside.specs.declared.shelf.Place.TheVariants.{T}
 use Rattle.outside.specs.Places.{Places}
@@ -10,10 +10,12 @@ use Rattle.checkpoint.specs.Kept.{number_of}
 use Rattle.checkpoint.specs.Known.{Knows}
 use Rattle.checkpoint.specs.declared.fault.SlotFault.{SlotFault}
 use Rattle.checkpoint.specs.declared.fault.SlotFault.TheVariants as of_slots
+use Rattle.tail_journal.specs.Groups.{Reading, reading}
 use Rattle.tail_journal.specs.Tails.{IsTail}
 use Rattle.tail_journal.specs.Read.{applied_of, EndsThere}
 use Rattle.tail_journal.specs.declared.fault.TailFault.{TailFault}
 use Rattle.tail_journal.specs.declared.fault.TailFault.TheVariants as of_tail
+use Rattle.state_store.specs.Commits.{Fill}
 use Rattle.state_store.specs.Stands.{Found, found_of}
 use Rattle.state_store.specs.declared.fault.StoreFault.{StoreFault}
 use Rattle.state_store.specs.declared.fault.StoreFault.TheVariants as fault
@@ -29,6 +31,20 @@ pub record IsStored (store : Store) (outcomes : Places → Type 0) (places : Pla
   pub ends : EndsThere (number_of (chosen_of places)) places.t
 
 -- ---- an opening
+
+-- where a reading ends; what is damaged is not opened
+abbrev pub end_of : Result Reading ℕ → ℕ
+end_of (Ok r) = r.end
+end_of (Err at) = 0
+
+-- how many bytes of T are read from the count of the chosen slot on, and none where there is no such slot
+abbrev pub read_size : Option ℕ → List ℕ → ℕ
+read_size None bytes = 0
+read_size (Some count) bytes = end_of (reading count bytes)
+
+-- how full the store is that opens these places
+abbrev pub fill_in : Places → Fill
+fill_in places = record { chosen = is_some (chosen_of places); tail = read_size (number_of (chosen_of places)) places.t }
 
 abbrev pub found_in : Opened → Found
 found_in opened = record {

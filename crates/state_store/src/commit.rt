@@ -9,7 +9,7 @@ ghost use Rattle.tail_journal.specs.Tails.{IsGroup};
 ghost use Rattle.state_store.specs.States.{State};
 ghost use Rattle.state_store.specs.Stands.{stands};
 ghost use Rattle.state_store.specs.Stored.{IsStored};
-ghost use Rattle.state_store.specs.Commits.{Appends, Commits, IsLater, MakeBatch, OldOrNew};
+ghost use Rattle.state_store.specs.Commits.{Appends, Commits, IsLater, MakeBatch, OldOrNew, fill_of};
 ghost use Rattle.state_store.specs.declared.fault.StoreFault.TheVariants as fault;
 
 use crate::fault::StoreFault;
@@ -35,6 +35,7 @@ pub fn append<H: Shelf>(store: &mut Store, shelf: &mut H, group: &[u8]) -> Resul
     ensures lasting { OnOk result (KnownThen (H.seen shelf.old) (H.seen shelf.new) (λ places after.
         (me : Bytes) (new : State) → Appends me new places group.now → stands me after ≡ Ok new)) }
     ensures stored { OnOk result (WhereKnown (H.seen shelf.new) (IsStored store.new (H.may_leave shelf.new))) }
+    ensures fill { OnOk result (fill_of store.new ≡ record { chosen = true; tail = store.old.tail.size + length group.now }) }
     ensures written { RisesUpTo (length group.now + 1) (H.written shelf.old) (H.written shelf.new) }
     ensures cause { HasCause (H.faults shelf.old) (H.faults shelf.new) result }
 {
@@ -57,6 +58,7 @@ pub fn checkpoint<H: Shelf>(
     ensures lasting { OnOk result (KnownThen (H.seen shelf.old) (H.seen shelf.new) (λ _ after. (me : Bytes) (new : State)
         → image_of image.now ≡ Ok (new.mailbox, new.position) → new.position.count ≡ number → stands me after ≡ Ok new)) }
     ensures stored { OnOk result (WhereKnown (H.seen shelf.new) (IsStored store.new (H.may_leave shelf.new))) }
+    ensures fill { OnOk result (fill_of store.new ≡ record { chosen = true; tail = 0 }) }
     ensures written { RisesUpTo (length image.now + 18) (H.written shelf.old) (H.written shelf.new) }
     ensures cause { HasCause (H.faults shelf.old) (H.faults shelf.new) result }
 {
@@ -87,6 +89,7 @@ pub fn append_changes<H: Shelf>(
     ensures lasting { OnOk result (KnownThen (H.seen shelf.old) (H.seen shelf.new) (λ places after.
         (me : Bytes) (new : State) → new.position ≡ position → Commits me new n changes.now places → stands me after ≡ Ok new)) }
     ensures stored { OnOk result (WhereKnown (H.seen shelf.new) (IsStored store.new (H.may_leave shelf.new))) }
+    ensures fill { OnOk result (fill_of store.new ≡ record { chosen = true; tail = store.old.tail.size + (39 + length changes.now) }) }
     ensures untouched { IsErrOf result StoreFault.Memory → shelf.new ≡ shelf.old }
     ensures written { RisesUpTo (40 + length changes.now) (H.written shelf.old) (H.written shelf.new) }
     ensures later { H.faults shelf.old ≤ H.faults shelf.new }
@@ -118,6 +121,7 @@ pub fn save_state<H: Shelf, L: Ledger>(
     ensures lasting { OnOk result (KnownThen (H.seen shelf.old) (H.seen shelf.new) (λ _ after. (me : Bytes)
         → stands me after ≡ Ok (record { mailbox = mailbox.now.mailbox; position = position }))) }
     ensures stored { OnOk result (WhereKnown (H.seen shelf.new) (IsStored store.new (H.may_leave shelf.new))) }
+    ensures fill { OnOk result (fill_of store.new ≡ record { chosen = true; tail = 0 }) }
     ensures untouched { IsErrOf result StoreFault.Memory → shelf.new ≡ shelf.old }
     ensures written { RisesUpTo (length (image mailbox.now.mailbox position) + 18) (H.written shelf.old) (H.written shelf.new) }
     ensures most { steps.new ≤ steps.old + cards_in mailbox.now.mailbox }

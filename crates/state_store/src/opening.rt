@@ -10,7 +10,8 @@ ghost use Rattle.checkpoint.specs.Kept.{number_of};
 ghost use Rattle.checkpoint.specs.Known.{Knows};
 ghost use Rattle.tail_journal.specs.Read.{applied_of, groups_from, FitsApplied, SameReading};
 ghost use Rattle.state_store.specs.Stands.{in_tail};
-ghost use Rattle.state_store.specs.Stored.{IsStored, Gives};
+ghost use Rattle.state_store.specs.Commits.{fill_of};
+ghost use Rattle.state_store.specs.Stored.{IsStored, Gives, fill_in};
 
 use crate::fault::StoreFault;
 use crate::store::Store;
@@ -34,6 +35,7 @@ pub fn open_tail<H: Shelf>(
     ensures valid { IfOk result (λ read. AllByRecursion FitsApplied (map applied_of read.1.items)) }
     ensures same { OnOk result (KnownThen (H.seen shelf.old) (H.seen shelf.new) (Changes T (SameReading number))) }
     ensures stored { IfOk result (λ read. WhereKnown (H.seen shelf.new) (IsStored read.0 (H.may_leave shelf.new))) }
+    ensures fill { IfOk result (λ read. WhereKnown (H.seen shelf.old) (λ places. fill_of read.0 ≡ fill_in places)) }
     ensures any_moment { WhereKnown (H.seen shelf.old) (λ _. LeavesOnly H.moment H.left_since shelf.old shelf.new
         (Reached (H.may_leave shelf.old) (Changes T (SameReading number)))) }
     ensures written { H.written shelf.new ≡ H.written shelf.old }

@@ -3,7 +3,6 @@ ghost use Rattle.std.specs.Prelude.{◌≡◌, ◌⊎◌, ◌≤◌, ◌+◌, tr
 ghost use Rattle.outside.specs.Causes.{Rose};
 ghost use Rattle.outside.specs.Crash.{RisesUpTo};
 ghost use Rattle.outside.specs.Moments.{LeavesOnly, Reached, WhereKnown, KnownThen};
-ghost use Rattle.state_image.specs.Images.{image, cards_in};
 ghost use Rattle.checkpoint.specs.Kept.{count_of};
 ghost use Rattle.state_store.specs.declared.fault.StoreFault.TheVariants as fault;
 
@@ -60,9 +59,9 @@ impl Store {
     ghost use Rattle.std.specs.List.{AllByRecursion};
     ghost use Rattle.state_image.specs.Images.{IsPosition};
     ghost use Rattle.tail_journal.specs.Read.{applied_of, FitsApplied};
-    ghost use Rattle.state_store.specs.Commits.{Commits, MakeBatch, OldOrNew, is_due};
+    ghost use Rattle.state_store.specs.Commits.{Commits, MakeBatch, OldOrNew, commit_reads, commit_writes, falls_due, fill_of, fill_with};
     ghost use Rattle.state_store.specs.Stands.{found_of, stands};
-    ghost use Rattle.state_store.specs.Stored.{found_in, IsStored, Gives, SameFound};
+    ghost use Rattle.state_store.specs.Stored.{found_in, fill_in, IsStored, Gives, SameFound};
 
     /// Opens the store of a shelf: what the chosen slot keeps, and the groups of the tail that are to be applied after it. What
     /// is after them in T is cut off; without a chosen slot all of it. Takes memory for what is kept.
@@ -72,6 +71,7 @@ impl Store {
     ///
     /// - `gives`: what is found is that of what the reads give at the start.
     /// - `same`, `stored`: after Ok the reads give the same, and the shelf is settled for the store.
+    /// - `fill`: the store has a chosen slot where there is one, and as many bytes of the tail as are read.
     /// - `valid`: the changes of the groups are valid, and so are their positions.
     /// - `any_moment`: a crash at any moment leaves that in which the same is found as in what it might have left at the start.
     /// - `written`: nothing is written.
@@ -79,6 +79,7 @@ impl Store {
         ensures gives { WhereKnown (H.seen shelf.old) (λ places. Gives found_in result (found_of places)) }
         ensures same { OnOk result (KnownThen (H.seen shelf.old) (H.seen shelf.new) SameFound) }
         ensures stored { IfOk result (λ opened. WhereKnown (H.seen shelf.new) (IsStored opened.store (H.may_leave shelf.new))) }
+        ensures fill { IfOk result (λ opened. WhereKnown (H.seen shelf.old) (λ places. fill_of opened.store ≡ fill_in places)) }
         ensures any_moment { WhereKnown (H.seen shelf.old) (λ _. LeavesOnly H.moment H.left_since shelf.old shelf.new
             (Reached (H.may_leave shelf.old) SameFound)) }
         ensures valid { IfOk result (λ opened. AllByRecursion FitsApplied (map applied_of opened.groups.items)) }
@@ -101,7 +102,7 @@ impl Store {
     /// Whether these changes are saved with an image, and not appended as a group: no slot is chosen, or the tail
     /// would have more than 8,388,608 bytes with them.
     fn is_due(&self, changes: &[u8]) -> bool
-        ensures { result ≡ is_due self.now (39 + length changes.now) }
+        ensures { result ≡ falls_due (fill_of self.now) (39 + length changes.now) }
     {
         let group = (GROUP_HEAD + changes.len()) as u64;
         !self.chosen || MAX_TAIL < self.tail.size().saturating_add(group)
@@ -116,8 +117,9 @@ impl Store {
     ///
     /// - `any_moment`: a crash at any moment leaves the state of before or the new one.
     /// - `lasting`, `stored`: after Ok the new state stands, and the shelf is settled for the store, so that it alone is left.
-    /// - `appended`, `saved`: no more is written than 40 bytes beside the changes, or 18 beside the image.
-    /// - `most`: an image reads each kept card once, by the count of steps.
+    /// - `fill`: after Ok the tail has the group too, or after a checkpoint nothing.
+    /// - `written`: no more is written than 40 bytes beside the changes, or where a checkpoint falls due 18 beside the image.
+    /// - `reads`: an image reads each kept card once, and a group none.
     #[expect(clippy::too_many_arguments)]
     pub fn commit<H: Shelf, L: Ledger>(
         &mut self,
@@ -138,12 +140,12 @@ impl Store {
         ensures lasting { OnOk result (KnownThen (H.seen shelf.old) (H.seen shelf.new) (λ _ after.
             stands mailbox.now.mailbox.me after ≡ Ok (record { mailbox = mailbox.now.mailbox; position = position }))) }
         ensures stored { OnOk result (WhereKnown (H.seen shelf.new) (IsStored self.new (H.may_leave shelf.new))) }
+        ensures fill { OnOk result (fill_of self.new ≡ fill_with (fill_of self.old) (39 + length changes.now)) }
         ensures untouched { IsErrOf result StoreFault.Memory → shelf.new ≡ shelf.old }
-        ensures appended { is_due self.old (39 + length changes.now) ≡ false
-            → RisesUpTo (40 + length changes.now) (H.written shelf.old) (H.written shelf.new) × (steps.new ≡ steps.old) }
-        ensures saved { is_due self.old (39 + length changes.now) ≡ true
-            → RisesUpTo (length (image mailbox.now.mailbox position) + 18) (H.written shelf.old) (H.written shelf.new) }
-        ensures most { steps.new ≤ steps.old + cards_in mailbox.now.mailbox }
+        ensures written { RisesUpTo (commit_writes (fill_of self.old) (length changes.now) (record { mailbox = mailbox.now.mailbox; position = position }))
+            (H.written shelf.old) (H.written shelf.new) }
+        ensures reads { steps.new ≤ steps.old
+            + commit_reads (fill_of self.old) (length changes.now) (record { mailbox = mailbox.now.mailbox; position = position }) }
         ensures later { H.faults shelf.old ≤ H.faults shelf.new }
         ensures cause { IsErrOf result StoreFault.Disk → Rose (H.faults shelf.old) (H.faults shelf.new) }
         ensures undamaged { IfErr result (λ why. (why ≡ fault.Disk) ⊎ (why ≡ fault.Memory)) }

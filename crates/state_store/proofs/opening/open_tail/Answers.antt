@@ -3,6 +3,8 @@ use Rattle.outside.specs.Places.{Places}
 use Rattle.checkpoint.specs.Slots.{chosen_of}
 use Rattle.checkpoint.specs.Kept.{number_of}
 use Rattle.tail_journal.specs.Read.{EndsThere, SameReading}
+use Rattle.state_store.specs.Stored.{read_size}
+use Rattle.state_store.proofs.Finding.{size_is}
 use Rattle.state_store.proofs.Knowing.{only_tail, same_chosen, knows_on, some_number}
 use Rattle.state_store.proofs.opening.open_tail.Goals as goal
 
@@ -21,3 +23,11 @@ returns-clause-stored g c places is =
       chosen = c.is_some.ensures ∙ ap is_some (sym number) ∙ some_number (chosen_of old.places) ∙ ap is_some (sym same);
       ends = subst (λ (n : Option ℕ). EndsThere n places.t) (sym number ∙ ap number_of (sym same)) (c.in_ok-tail.ensures.ends places is);
     }
+
+pub returns-clause-fill : goal.returns-clause-fill
+returns-clause-fill g c places is =
+    let number = c.requires.number places is in
+    let after = c.in_ok-tail.ensures.same.forth places is in
+    let tail = size_is c.args.number places.t after.places.t _ after.holds.2 (c.in_ok-tail.ensures.ends after.places after.is) (c.in_ok-tail.ensures.known after.places after.is).size in
+    let chosen = c.is_some.ensures ∙ ap is_some (sym number) ∙ some_number (chosen_of places) in
+    λ i. record { chosen = chosen i; tail = (tail ∙ ap (λ (n : Option ℕ). read_size n places.t) (sym number)) i }

@@ -1,10 +1,10 @@
-use Rattle.std.proofs.Common.{ap}
+use Rattle.std.proofs.Common.{ap, arith}
 use Rattle.outside.specs.Moments.{WhereKnown}
 use Rattle.mailbox_model.specs.Mailbox.{Mailbox}
 use Rattle.state_store.specs.Stored.{found_in}
 use Rattle.keeper.specs.Keeping.{Keeping}
 use Rattle.keeper.specs.Opening.{AllFindSame}
-use Rattle.keeper.proofs.Opened.{all_find_same, on_other, opened_is_kept}
+use Rattle.keeper.proofs.Opened.{all_find_same, load_is, on_other, opened_is_kept}
 use Rattle.keeper.proofs.keeper.Keeper.open.Goals as goal
 
 pub returns-in_err-mailbox-clause-other : goal.returns-in_err-mailbox-clause-other
@@ -25,3 +25,15 @@ returns-clause-kept g c =
     opened_is_kept (H.seen c.args.shelf.now) (H.seen c.open.new.shelf) c.in_ok-store.ensures.same c.args.me.now k (found_in opened) (c.in_ok-mailbox.mailbox, position)
     c.in_ok-store.ensures.gives c.in_ok-mailbox.ensures.restores.0 c.in_ok-mailbox.ensures.restores.1
     (ap (λ (m : Mailbox). record { mailbox = m; position = position }) c.in_ok-engine.ensures.mailbox) c.new.ensures
+
+pub returns-in_err-engine-clause-cost : goal.returns-in_err-engine-clause-cost
+returns-in_err-engine-clause-cost g c places is =
+    let opened = c.in_ok-store.field-0 in
+    let load = load_is c.args.me.now places (found_in opened) (c.in_ok-mailbox.mailbox, c.in_ok-mailbox.position) (c.in_ok-store.ensures.gives places is) c.in_ok-mailbox.ensures.restores.0 in
+    omega (arith, load, c.from_mailbox.ensures.cost)
+
+pub returns-clause-cost : goal.returns-clause-cost
+returns-clause-cost g c places is =
+    let opened = c.in_ok-store.field-0 in
+    let load = load_is c.args.me.now places (found_in opened) (c.in_ok-mailbox.mailbox, c.in_ok-mailbox.position) (c.in_ok-store.ensures.gives places is) c.in_ok-mailbox.ensures.restores.0 in
+    omega (arith, load, c.from_mailbox.ensures.cost)

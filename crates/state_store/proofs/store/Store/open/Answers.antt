@@ -1,7 +1,8 @@
-use Rattle.std.proofs.Common.{map, ◌∙◌, sym}
+use Rattle.std.proofs.Common.{map, ◌∙◌, ap, sym}
 use Rattle.std.proofs.lemmas.Result.{err_from_is_err_and}
 use Rattle.outside.specs.Places.{Places}
 use Rattle.tail_journal.specs.Read.{applied_of}
+use Rattle.state_store.specs.Stored.{fill_in}
 use Rattle.state_store.proofs.Finding.{seen_kept, count_is, finds, finds_none, opens_same, opens_leaving}
 use Rattle.state_store.proofs.store.Store.open.Goals as goal
 
@@ -49,3 +50,8 @@ returns-clause-any_moment g c places is =
     opens_leaving H.seen H.may_leave H.moment H.left_since c.args.shelf.now mid c.open_tail.new.shelf (seen_kept kept) c.count_of-number.result count c.open.ensures.reads c.in_ok-slots.ensures.gives places is
     (λ (x : Places) (left : H.may_leave mid x). run.each x (g.met.H.Shelf.counts_now mid (H.moment c.args.shelf.now) x run.later left))
     (λ (q : Places) known. (c.in_ok-slots.ensures.known q known).settled) run c.open_tail.ensures.any_moment
+
+pub returns-clause-fill : goal.returns-clause-fill
+returns-clause-fill g c places is =
+    let mid = c.open.ensures.reads.forth places is in
+    c.in_ok-store.ensures.fill mid.places mid.is ∙ ap fill_in mid.holds
