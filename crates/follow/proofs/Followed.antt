@@ -1,5 +1,5 @@
 -- A run over its files: what came of opening, of following, and of commits.
-use Rattle.std.proofs.Common.{◌≡◌, ◌≢◌, ◌⊎◌, inl, inr, ◌≤◌, ◌<◌, ℕ, List, ◌++◌, length, Bool, true, false, Option, Some, None, Result, Ok, Err, OnOk, IfErr, arith, rules, refl, sym, ap, subst, ◌∙◌, if◌then◌else◌}
+use Rattle.std.proofs.Common.{◌≡◌, ◌≢◌, ◌⊎◌, inl, inr, ◌≤◌, ◌<◌, ℕ, ◌+◌, List, ◌++◌, length, Bool, true, false, Option, Some, None, Ok, Err, arith, rules, refl, sym, ap, subst, ◌∙◌, if◌then◌else◌}
 use Rattle.std.specs.Prelude.{bytes_eq, option_map}
 use Rattle.std.proofs.lemmas.Bool.{le-ltb, lt-ltb}
 use Rattle.std.proofs.lemmas.Slice.Eq.{bytes_eq-Decides}
@@ -13,26 +13,28 @@ use Rattle.mboxrd.specs.Reading.{Reading, position}
 use Rattle.source_buffer.specs.Known.{IfKnown}
 use Rattle.state_store.specs.States.{State}
 use Rattle.state_store.specs.Stands.{stand_of, stands}
+use Rattle.state_store.specs.Commits.{Fill}
 use Rattle.state_store.specs.Stored.{IsStored, SameFound}
 use Rattle.state_store.proofs.Appending.{is_settled}
 use Rattle.keeper.specs.Keeping.{Keeping, is_refused}
-use Rattle.keeper.specs.Pending.{PendingChanges, none_pending}
-use Rattle.keeper.specs.Opening.{AllFindSame, IsOthers}
+use Rattle.keeper.specs.Pending.{PendingChanges, none_pending, with_change}
+use Rattle.keeper.specs.Opening.{AllFindSame, IsOthers, load_of}
 use Rattle.follower.specs.declared.fault.Input.{Input}
 use Rattle.follower.specs.declared.fault.Input.TheVariants.{Mbox, Steps}
 use Rattle.follower.specs.declared.fault.RunFault.{RunFault}
 use Rattle.follower.specs.declared.fault.RunFault.TheVariants as fault
-use Rattle.follower.specs.Committing.{AllStand, Ends, HaltsAt, MailsToCome, OnWay, Prefix, Way, committed}
+use Rattle.follower.specs.Committing.{AllStand, Ends, HaltsAt, MailsToCome, OnWay, Outset, Prefix, Stops, Way, committed, outset}
 use Rattle.follower.specs.Feed.{Feed, after_fed, coming, fed_first, lines_left, mails_feed, mails_left, moment_fed}
-use Rattle.follower.specs.Following.{Adds, Following, IsFollowFault, lines_ahead, mails_ahead, to_come}
+use Rattle.follower.specs.Following.{Following, IsFollowFault, lines_ahead, mails_ahead, to_come}
 use Rattle.follower.specs.Opening.{IsOpenFault, OnOtherMe, StartsLines, StartsMbox}
 use Rattle.follower.specs.Reached.{reached}
-use Rattle.follower.proofs.Committing.{way_first, way_on}
-use Rattle.follower.proofs.Rounds.{stops_at}
+use Rattle.follower.specs.Spending.{Counts, RoseWithin, counts, run_spends}
+use Rattle.follower.proofs.Committing.{sum_within, way_first, way_on, way_spends}
+use Rattle.follower.proofs.Rounds.{free_stop, stops_at}
 use Rattle.follow.specs.declared.status.Refusal.{Refusal}
 use Rattle.follow.specs.declared.status.Refusal.TheVariants as refusal
-use Rattle.follow.specs.Outcome.{Given, KeepsAll, MayStand, SameState, changes, followed, followed_from, followed_if, given_of, kept, kept_from, kept_if, short_of, short_steps, unfit}
-use Rattle.follow.specs.Replies.{BeginFails, Begun, EndGoes, FollowGoes, FollowStops, IsState}
+use Rattle.follow.specs.Outcome.{Given, KeepsAll, MayStand, SameState, changes, commits_from, commits_if, follow_spends, followed, followed_from, followed_if, given_of, kept, kept_from, kept_if, short_of, short_steps, steps_found, unfit}
+use Rattle.follow.specs.Replies.{BeginFails, Begun, FollowGoes, FollowStops, IsState}
 
 -- ---- what is fit to be followed
 
@@ -90,8 +92,8 @@ module _ (g : Given) (s : State) (stand : g.stand ≡ Ok s) (outcomes : Places �
 
   -- it is followed
   module _ (own : s.mailbox.me ≡ g.me) (fits : unfit g s ≡ None) where
-    pub goes_to_end : (f : Following) → EndGoes (Ok tt) s (changes g s) f outcomes → FollowGoes (Ok f) g outcomes
-    goes_to_end f ends = (followed_by None fits ∙ ap Ok ends.all, keeps_all (committed s (changes g s)) (kept_by None fits) own ends.each)
+    pub goes_to_end : (f : Following) (fill : Fill) (old now : Counts) → Ends (record { state = s; fill = fill; counts = old }) (changes g s) f.keeper now outcomes → FollowGoes (Ok f) g outcomes
+    goes_to_end f fill old now ends = (followed_by None fits ∙ ap Ok ends.all, keeps_all (committed s (changes g s)) (kept_by None fits) own ends.each)
 
     pub halts_stop : (why : RunFault) → IsFollowFault why → HaltsAt why s (changes g s) outcomes → FollowStops why g outcomes
     halts_stop (fault.Read input) may halts = tt
@@ -207,42 +209,65 @@ module _ {D : Type 0} (moment : D → ℕ) (left_since : D → ℕ → Places �
 -- ---- following from what was opened
 
 -- nothing is made yet
-pub first_way : (k : Keeping) (feed : Feed) (seen : Option Places) → k.pending ≡ none_pending → IsKnown seen (IsState k.state) → IsKnown seen (Way k.state feed feed k)
-first_way k feed seen none known = record { places = known.places; is = known.is; holds = way_first feed k known.places (ap (λ (p : PendingChanges). p.count) none) known.holds }
+pub first_way : (k : Keeping) (feed : Feed) (now : Counts) (seen : Option Places) → k.pending ≡ none_pending → IsKnown seen (IsState k.state) → IsKnown seen (Way (outset k now) feed feed k now)
+first_way k feed now seen none known = record { places = known.places; is = known.is; holds = way_first feed k now known.places none known.holds }
 
 -- a moment comes first
-module _ (k : Keeping) (mails : List Mail) (moment : ℕ) where
-  abbrev pub whole : Feed
-  whole = mails_feed k.state mails (Some moment)
+abbrev pub whole : Keeping → List Mail → ℕ → Feed
+whole k mails moment = mails_feed k.state mails (Some moment)
 
-  pub moment_refused : (seen : Option Places) (outcomes : Places → Type 0) (why : RunFault) → IsKnown seen (Way k.state whole whole k) → k.pending ≡ none_pending → WhereKnown seen (IsStored k.store outcomes)
-      → (why ≡ fault.Full) ⊎ (why ≡ fault.Memory) → (why ≡ fault.Full → is_refused k.state (At moment) ≡ true) → HaltsAt why k.state whole outcomes
-  moment_refused seen outcomes why known none stored (inl full) refused = subst (λ (e : RunFault). HaltsAt e k.state whole outcomes) (sym full)
-      (stops_at k.state whole outcomes seen whole k known (omega (arith, ap (λ (p : PendingChanges). p.count) none)) stored fault.Full
+module _ (k : Keeping) (mails : List Mail) (moment : ℕ) (now : Counts) where
+  abbrev all : Feed
+  all = whole k mails moment
+
+  pub moment_refused : (seen : Option Places) (outcomes : Places → Type 0) (why : RunFault) → IsKnown seen (Way (outset k now) all all k now) → k.pending ≡ none_pending
+      → WhereKnown seen (IsStored k.store outcomes) → (why ≡ fault.Full) ⊎ (why ≡ fault.Memory) → (why ≡ fault.Full → is_refused k.state (At moment) ≡ true) → Stops why (outset k now) all now outcomes
+  moment_refused seen outcomes why known none stored (inl full) refused = subst (λ (e : RunFault). Stops e (outset k now) all now outcomes) (sym full)
+      (stops_at (outset k now) all now outcomes seen all k known (omega (arith, ap (λ (p : PendingChanges). p.count) none)) stored fault.Full
       (record { fed = moment_fed k.state.position moment; others = coming None (after_fed k.state (moment_fed k.state.position moment)) mails None; first = refl; refused = refused full }))
-  moment_refused seen outcomes why known none stored (inr memory) refused = subst (λ (e : RunFault). HaltsAt e k.state whole outcomes) (sym memory) tt
+  moment_refused seen outcomes why known none stored (inr memory) refused =
+      free_stop (outset k now) all now outcomes seen why (inr memory) (way_spends (outset k now) all all k now known.places known.holds)
 
   pub moment_made : (seen : Option Places) (old new : Following) (left : Option Bytes) (rest : Bytes) → left ≡ Some rest → mails ≡ mails_ahead old rest → new.mbox ≡ old.mbox
-      → IsKnown seen (Way k.state whole whole k) → is_refused k.state (At moment) ≡ false → new.keeper.state ≡ after_fed k.state (moment_fed k.state.position moment) → Adds k new.keeper
-      → OnWay k.state whole (MailsToCome new left) new.keeper seen
-  moment_made seen old new left rest is ahead same known room state adds =
+      → IsKnown seen (Way (outset k now) all all k now) → is_refused k.state (At moment) ≡ false → new.keeper.state ≡ after_fed k.state (moment_fed k.state.position moment)
+      → new.keeper.pending ≡ with_change k.pending (At moment) → new.keeper.store ≡ k.store → OnWay (outset k now) all (MailsToCome new left) new.keeper now seen
+  moment_made seen old new left rest is ahead same known room state pending store =
       let later = coming None new.keeper.state mails None in record {
         others = later;
         to_come = (rest, is, ap (λ (ms : List Mail). coming None new.keeper.state ms None) (ahead ∙ ap (λ (r : Reading). mails_from (position r) (r.held ++ rest)) (sym same)));
         known = record {
           places = known.places;
           is = known.is;
-          holds = way_on k.state whole whole k known.places known.holds new.keeper later
-              (record { fed = moment_fed k.state.position moment; first = ap (λ (s : State). fed_first (moment_fed k.state.position moment) (coming None s mails None)) (sym state); room = room; state = state }) adds;
+          holds = way_on (outset k now) all all k now known.places known.holds new.keeper later (record {
+            fed = moment_fed k.state.position moment;
+            first = ap (λ (s : State). fed_first (moment_fed k.state.position moment) (coming None s mails None)) (sym state);
+            room = room;
+            state = state;
+            pending = pending;
+          }) store;
         };
       }
 
--- the last commit
-pub end_goes : (start : State) (feed : Feed) (f : Following) (outcomes : Places → Type 0) (r : Result Unit RunFault) → OnOk r (Ends start feed f.keeper outcomes)
-    → IfErr r (λ why. (why ≡ fault.Disk) ⊎ (why ≡ fault.Memory)) → EndGoes r start feed f outcomes
-end_goes start feed f outcomes (Ok t) ends cause = ends
-end_goes start feed f outcomes (Err why) ends (inl disk) = subst (λ (e : RunFault). HaltsAt e start feed outcomes) (sym disk) tt
-end_goes start feed f outcomes (Err why) ends (inr memory) = subst (λ (e : RunFault). HaltsAt e start feed outcomes) (sym memory) tt
+-- it was made without a read of a kept card
+pub later_on : (left : Option Bytes) (seen : Option Places) (written : ℕ) (start : Outset) (feed : Feed) (f : Following) (n m : ℕ) → m ≡ n → OnWay start feed (MailsToCome f left) f.keeper (counts n written) seen
+    → OnWay start feed (MailsToCome f left) f.keeper (counts m written) seen
+later_on left seen written start feed f n m same on = subst (λ (i : ℕ). OnWay start feed (MailsToCome f left) f.keeper (counts i written) seen) (sym same) on
+
+-- ---- what is read and written
+
+-- where nothing is followed
+pub opening_spends : (g : Given) (old mid : Counts) → mid.reads ≤ old.reads + load_of g.stand → mid.written ≡ old.written → RoseWithin old (follow_spends g) mid
+opening_spends g old mid reads written = record { reads = omega (arith, reads); written = omega (arith, written) }
+
+module _ (g : Given) (s : State) (stand : g.stand ≡ Ok s) (old mid : Counts) (reads : mid.reads ≤ old.reads + load_of g.stand) (written : mid.written ≡ old.written) where
+  pub following_spends : (fill : Fill) (feed : Feed) (new : Counts) → unfit g s ≡ None → fill ≡ g.fill → feed ≡ changes g s → RoseWithin mid (run_spends s fill feed) new → RoseWithin old (follow_spends g) new
+  following_spends fill feed new fits fill_is feed_is rose =
+      let commits : commits_if g g.stand ≡ run_spends s fill feed =
+      ap (commits_if g) stand ∙ ap (commits_from g s) fits ∙ (λ i. run_spends s (sym fill_is i) (sym feed_is i)) in
+      record {
+        reads = sum_within old.reads (load_of g.stand) (commits_if g g.stand).reads mid.reads new.reads (run_spends s fill feed).reads (sym (ap (λ (c : Counts). c.reads) commits)) reads rose.reads;
+        written = omega (arith, rose.written, written, ap (λ (c : Counts). c.written) commits);
+      }
 
 -- the own address is that of the state
 pub own_state : (me : Bytes) (s : State) (seen : Option Places) → s.mailbox.me ≡ me → IsKnown seen (λ places. stands me places ≡ Ok s) → IsKnown seen (IsState s)
@@ -295,9 +320,9 @@ pub record BothBegun (g : Given) (f : Following) (rest left : Bytes) (seen : Opt
   pub known : IsKnown seen (IsState f.keeper.state)
 
 pub both_begun : (me : Bytes) (at : Option ℕ) (bytes lines : Bytes) (places : Places) (next : ℕ) (l j : Option Bytes) (seen : Option Places) (f new : Following) (b : Begun me bytes (stands me places) f l seen)
-    (c : LinesBegun new lines j) → new.keeper ≡ f.keeper → new.mbox ≡ f.mbox → BothBegun (given_of me at bytes (Some lines) places next) new b.rest c.rest seen
+    (c : LinesBegun new lines j) → new.keeper ≡ f.keeper → new.mbox ≡ f.mbox → BothBegun (given_of me at (steps_found bytes lines places next)) new b.rest c.rest seen
 both_begun me at bytes lines places next l j seen f new b c same reader =
-    let g = given_of me at bytes (Some lines) places next in
+    let g = given_of me at (steps_found bytes lines places next) in
     let own : new.keeper.state.mailbox.me ≡ me = ap (λ (k : Keeping). k.state.mailbox.me) same ∙ b.own in
     let long : new.keeper.state.position.mbox ≤ length bytes = subst (λ (k : Keeping). k.state.position.mbox ≤ length bytes) (sym same) b.within in
     let ahead : mails_ahead new b.rest ≡ mails_left new.keeper.state.position bytes =

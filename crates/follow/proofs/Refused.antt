@@ -1,5 +1,5 @@
 -- What is left of a run that was refused.
-use Rattle.std.proofs.Common.{◌≡◌, ◌⊎◌, ◌<◌, ℕ, true, length, Option, None, Some, Result, Ok, Err, IfSome, sym, ap, subst, ◌∙◌, inl, inr, refl, arith, length-append}
+use Rattle.std.proofs.Common.{◌≡◌, ◌⊎◌, ◌<◌, ℕ, Bool, true, false, length, Option, None, Some, Result, Ok, Err, IfSome, sym, ap, subst, ◌∙◌, inl, inr, refl, arith, length-append}
 use Rattle.std.specs.Prelude.{IsErrOf}
 use Rattle.std.specs.Io.KnownBytes.{Appends}
 use Rattle.mailbox_model.specs.Lists.{Bytes}
@@ -14,7 +14,7 @@ use Rattle.outside.specs.Moments.{LeavesOnly}
 use Rattle.outside.specs.Places.{Places}
 use Rattle.outside.proofs.Moments.{started}
 use Rattle.outside.specs.declared.faults.Failed.{Failed}
-use Rattle.follow.specs.Outcome.{Agrees, Given, LastIf, MayStandIf, PutsAnswer, PutsLine, PutsWhole, TakesAll, TellsSteps}
+use Rattle.follow.specs.Outcome.{Agrees, EndsBare, Given, LastIf, MayStandIf, PutsAnswer, PutsLine, PutsWhole, TakesAll, TellsSteps}
 use Rattle.follow.specs.Replies.{Puts}
 use Rattle.follow.specs.Statuses.{line_of, status_of}
 
@@ -53,7 +53,6 @@ agrees_refused o old new why s puts (inl is) = subst (Agrees o) (sym is) (by o w
     by (Ok text) (refusal.OtherMe other me) p = absurd cc
     by (Ok text) (refusal.Endless input) p = tt
     by (Ok text) refusal.NoApp p = absurd cc
-    by (Ok text) refusal.Unbuilt p = absurd cc
     by (Err e) refusal.Usage p = (let same : refusal.Usage ≡ e = cc in ap status_of same)
     by (Err e) (refusal.Read input) p = tt
     by (Err e) (refusal.Steps line) p = (let same : refusal.Steps line ≡ e = cc in ap status_of same)
@@ -67,7 +66,6 @@ agrees_refused o old new why s puts (inl is) = subst (Agrees o) (sym is) (by o w
     by (Err e) (refusal.OtherMe other me) p = (let same : refusal.OtherMe other me ≡ e = cc in ap status_of same)
     by (Err e) (refusal.Endless input) p = tt
     by (Err e) refusal.NoApp p = (let same : refusal.NoApp ≡ e = cc in ap status_of same)
-    by (Err e) refusal.Unbuilt p = (let same : refusal.Unbuilt ≡ e = cc in ap status_of same)
 
 -- ---- what was put
 
@@ -100,7 +98,6 @@ puts_refused o old new why s write (inl is) = subst (PutsAnswer old new o) (sym 
     by (Ok text) (refusal.OtherMe other me) w = tt
     by (Ok text) (refusal.Endless input) w = tt
     by (Ok text) refusal.NoApp w = tt
-    by (Ok text) refusal.Unbuilt w = tt
 
 -- ---- where nothing failed, an answer was put whole, or memory ran out
 
@@ -121,7 +118,6 @@ answered old new (Ok t) text status.NoApp is agrees puts read endless disk write
 answered old new (Ok t) text status.Damaged is agrees puts read endless disk write = absurd agrees
 answered old new (Ok t) text status.Short is agrees puts read endless disk write = absurd agrees
 answered old new (Ok t) text status.OtherMe is agrees puts read endless disk write = absurd agrees
-answered old new (Ok t) text status.Unbuilt is agrees puts read endless disk write = absurd agrees
 
 -- the line of a read fault has its cause
 pub not_read : (old new : Option Bytes) (cause : Refusal → Type 0) (rose : Type 0) (s : Status) → PutsLine old new cause rose s
@@ -146,7 +142,6 @@ not_read old new cause rose s line mbox steps is = by (subst (PutsLine old new c
         none (refusal.OtherMe other me) e c = absurd cc
         none (refusal.Endless input) e c = absurd cc
         none refusal.NoApp e c = absurd cc
-        none refusal.Unbuilt e c = absurd cc
 
 pub not_endless : (old new : Option Bytes) (cause : Refusal → Type 0) (rose : Type 0) (s : Status) → PutsLine old new cause rose s
     → ¬ cause (refusal.Endless Mbox) → ¬ cause (refusal.Endless Steps) → ¬ (s ≡ status.Endless)
@@ -170,7 +165,6 @@ not_endless old new cause rose s line mbox steps is = by (subst (PutsLine old ne
         none (refusal.Short input) e c = absurd cc
         none (refusal.OtherMe other me) e c = absurd cc
         none refusal.NoApp e c = absurd cc
-        none refusal.Unbuilt e c = absurd cc
 
 pub not_disk : (old new : Option Bytes) (cause : Refusal → Type 0) (rose : Type 0) (s : Status) → PutsLine old new cause rose s → ¬ cause refusal.Disk → ¬ (s ≡ status.Disk)
 not_disk old new cause rose s line shelf is = by (subst (PutsLine old new cause rose) is line)
@@ -192,7 +186,6 @@ not_disk old new cause rose s line shelf is = by (subst (PutsLine old new cause 
         none (refusal.OtherMe other me) e c = absurd cc
         none (refusal.Endless input) e c = absurd cc
         none refusal.NoApp e c = absurd cc
-        none refusal.Unbuilt e c = absurd cc
 
 -- fewer bytes were there
 pub not_all : (before after : Option Bytes) (bytes : Bytes) (budget : ℕ) → before ≡ Some bytes → length bytes < budget → ¬ TakesAll before after budget
@@ -234,7 +227,6 @@ refused_line old new cause rose why s of_why of_memory line =
     by (refusal.OtherMe other me) c p = (refusal.OtherMe other me, refl, c, p)
     by (refusal.Endless input) c p = (refusal.Endless input, refl, c, p)
     by refusal.NoApp c p = (refusal.NoApp, refl, c, p)
-    by refusal.Unbuilt c p = (refusal.Unbuilt, refl, c, p)
 
 -- ---- memory
 
@@ -250,15 +242,16 @@ pub not_all_steps : (before after lines : Option Bytes) (budget : ℕ) → Tells
 not_all_steps before after None budget told fewer t = absurd told
 not_all_steps before after (Some lines) budget told fewer t = not_all before after lines budget told fewer t
 
--- ---- what a run leaves as it was
+-- ---- a run that follows no files
 
-pub second : (o : Option Refusal) (P Q R : Type 0) → IfSome o (λ why. P × Q × R) → IfSome o (λ why. Q)
-second None P Q R all = tt
-second (Some why) P Q R all = all.1
+-- one that follows some does not come to an endless one, or it follows none
+pub not_endless_at : (asked : Bool) (s : Status) → (asked ≡ true → ¬ (s ≡ status.Endless)) → (asked ≡ false → EndsBare s) → ¬ (s ≡ status.Endless)
+not_endless_at true s files bare is = files refl is
+not_endless_at false s files bare is = subst EndsBare is (bare refl)
 
-pub third : (o : Option Refusal) (P Q R : Type 0) → IfSome o (λ why. P × Q × R) → IfSome o (λ why. R)
-third None P Q R all = tt
-third (Some why) P Q R all = all.2
+pub bare_said : (why : Refusal) (s : Status) → Said why s → EndsBare (status_of why) → EndsBare s
+bare_said why s (inl is) bare = subst EndsBare (sym is) bare
+bare_said why s (inr is) bare = subst EndsBare (sym is) tt
 
 -- ---- what is kept
 
@@ -269,10 +262,6 @@ last_of_memory (Some g) outcomes = tt
 pub last_of_usage : (o : Option Given) (outcomes : Places → Type 0) → LastIf o status.Usage outcomes
 last_of_usage None outcomes = tt
 last_of_usage (Some g) outcomes = tt
-
-pub last_of_unbuilt : (o : Option Given) (outcomes : Places → Type 0) → LastIf o status.Unbuilt outcomes
-last_of_unbuilt None outcomes = tt
-last_of_unbuilt (Some g) outcomes = tt
 
 pub last_said : (o : Option Given) (outcomes : Places → Type 0) (why : Refusal) (s : Status) → Said why s → LastIf o (status_of why) outcomes → LastIf o s outcomes
 last_said o outcomes why s (inl is) last = subst (λ (s : Status). LastIf o s outcomes) (sym is) last

@@ -1,9 +1,11 @@
 -- What was put and kept, by what became of the files and of the question.
-use Rattle.std.proofs.Common.{◌≡◌, ◌≢◌, ◌≤◌, ℕ, ◌^◌, [], ◌++◌, Option, Result, Ok, Err, arith, refl, sym, ap, subst}
+use Rattle.std.proofs.Common.{◌≡◌, ◌≢◌, ◌≤◌, ℕ, ◌^◌, [], ◌++◌, ◌+◌, Option, Some, None, Result, Ok, Err, arith, refl, sym, ap, subst, ◌∙◌}
+use Rattle.std.specs.Prelude.{ok_or}
 use Rattle.std.specs.Result.{result_map_both}
 use Rattle.outside.specs.Causes.{Rose}
 use Rattle.outside.specs.Places.{Places}
 use Rattle.answers.specs.Answers as asked
+use Rattle.answers.specs.Costs.{answer_cost}
 use Rattle.answers.specs.declared.fault.AnswerFault.{AnswerFault}
 use Rattle.answers.specs.declared.fault.AnswerFault.TheVariants as answer
 use Rattle.answers.specs.declared.question.Question.{Question}
@@ -16,13 +18,20 @@ use Rattle.follower.specs.declared.fault.RunFault.{RunFault}
 use Rattle.follower.specs.declared.fault.RunFault.TheVariants as fault
 use Rattle.follower.specs.Following.{Following, IsCause, IsKeepFault}
 use Rattle.follower.specs.Reached.{Reached, Stop}
+use Rattle.follower.specs.Spending.{Counts, RoseWithin}
+use Rattle.follower.proofs.Committing.{sum_within}
 use Rattle.follower.proofs.Going.{rose_since}
 use Rattle.mailbox_model.specs.Lists.{Bytes}
+use Rattle.mailbox_model.specs.Mailbox.{Mailbox}
+use Rattle.state_store.specs.States.{State}
+use Rattle.trial.specs.Faults as trial
+use Rattle.trial.specs.declared.fault.TrialFault.{TrialFault}
+use Rattle.trial.specs.declared.fault.TrialFault.TheVariants as of_trial
 use Rattle.follow.specs.declared.status.Refusal.{Refusal}
 use Rattle.follow.specs.declared.status.Refusal.TheVariants as refusal
-use Rattle.follow.specs.Outcome.{CauseOf, Given, KeepsAll, OnLast, TakesAll, TakesUpTo, answer_at, followed, mbox_budget, replied, steps_budget}
+use Rattle.follow.specs.Outcome.{CauseOf, EndsBare, Given, KeepsAll, OnLast, TakesAll, TakesUpTo, answer_at, answer_reads, asked_cost, follow_spends, followed, mbox_budget, replied, steps_budget}
 use Rattle.follow.specs.Replies.{FollowStops, Puts, Took, untaken}
-use Rattle.follow.specs.Statuses.{answer_refusal, refusal_of, status_of}
+use Rattle.follow.specs.Statuses.{answer_refusal, refusal_of, status_of, trial_refusal}
 
 -- the answer, and why there is none, as a run says it
 abbrev pub refused : Result Bytes AnswerFault → Result Bytes Refusal
@@ -154,7 +163,6 @@ cause_on P P' Q Q' R R' T T' U U' (refusal.Damaged place at) p q r t u c = tt
 cause_on P P' Q Q' R R' T T' U U' (refusal.Short input) p q r t u c = tt
 cause_on P P' Q Q' R R' T T' U U' (refusal.OtherMe other me) p q r t u c = tt
 cause_on P P' Q Q' R R' T T' U U' refusal.NoApp p q r t u c = tt
-cause_on P P' Q Q' R R' T T' U U' refusal.Unbuilt p q r t u c = tt
 
 -- why nothing was opened
 pub open_cause : (P Q R T U : Type 0) (me : Bytes) (why : RunFault) → IsKeepFault why → (why ≡ fault.Disk → R) → CauseOf P Q R T U (refusal_of me why)
@@ -198,16 +206,16 @@ steps_took_on l m n f started new fresh took more =
 
 -- ---- what the files can't be the cause of
 
-pub not_words : (me : Bytes) (why : RunFault) → (refusal_of me why ≢ refusal.Usage) × (refusal_of me why ≢ refusal.Unbuilt)
-not_words me (fault.Read input) = (λ is. cc, λ is. cc)
-not_words me (fault.Endless input) = (λ is. cc, λ is. cc)
-not_words me (fault.Short input) = (λ is. cc, λ is. cc)
-not_words me (fault.Steps number) = (λ is. cc, λ is. cc)
-not_words me fault.Full = (λ is. cc, λ is. cc)
-not_words me fault.Disk = (λ is. cc, λ is. cc)
-not_words me (fault.Damaged place at) = (λ is. cc, λ is. cc)
-not_words me (fault.OtherMe other) = (λ is. cc, λ is. cc)
-not_words me fault.Memory = (λ is. cc, λ is. cc)
+pub not_words : (me : Bytes) (why : RunFault) → refusal_of me why ≢ refusal.Usage
+not_words me (fault.Read input) is = cc
+not_words me (fault.Endless input) is = cc
+not_words me (fault.Short input) is = cc
+not_words me (fault.Steps number) is = cc
+not_words me fault.Full is = cc
+not_words me fault.Disk is = cc
+not_words me (fault.Damaged place at) is = cc
+not_words me (fault.OtherMe other) is = cc
+not_words me fault.Memory is = cc
 
 pub not_write : (me : Bytes) (why : RunFault) → refusal_of me why ≢ refusal.Write
 not_write me (fault.Read input) is = cc
@@ -220,8 +228,59 @@ not_write me (fault.Damaged place at) is = cc
 not_write me (fault.OtherMe other) is = cc
 not_write me fault.Memory is = cc
 
-pub not_asked : (why : AnswerFault) → (answer_refusal why ≢ refusal.Usage) × (answer_refusal why ≢ refusal.Unbuilt)
-not_asked answer.NoChat = (λ is. cc, λ is. cc)
-not_asked answer.NoApp = (λ is. cc, λ is. cc)
-not_asked answer.Write = (λ is. cc, λ is. cc)
-not_asked answer.Memory = (λ is. cc, λ is. cc)
+pub not_asked : (why : AnswerFault) → answer_refusal why ≢ refusal.Usage
+not_asked answer.NoChat is = cc
+not_asked answer.NoApp is = cc
+not_asked answer.Write is = cc
+not_asked answer.Memory is = cc
+
+-- ---- what is read and written
+
+-- the answer is not asked for, or may read more
+pub answer_apart : (q : Question) (g : Given) (old new : Counts) → RoseWithin old (follow_spends g) new → RoseWithin old (asked_cost q g) new
+answer_apart q g old new rose = record { reads = omega (arith, rose.reads); written = rose.written }
+
+-- the answer to the question
+pub answer_spends : (q : Question) (g : Given) (s : State) (m : Mailbox) (old mid new : Counts) → followed g ≡ Ok (record { state = s; stop = None }) → m ≡ s.mailbox → RoseWithin old (follow_spends g) mid
+    → new.reads ≤ mid.reads + answer_cost m q → new.written ≡ mid.written → RoseWithin old (asked_cost q g) new
+answer_spends q g s m old mid new all same rose reads written =
+    let cost : answer_cost m q ≡ answer_reads q (followed g) = ap (λ (m : Mailbox). answer_cost m q) same ∙ ap (answer_reads q) (sym all) in
+    record {
+      reads = sum_within old.reads (follow_spends g).reads (answer_reads q (followed g)) mid.reads new.reads (answer_cost m q) cost rose.reads reads;
+      written = omega (arith, rose.written, written);
+    }
+
+-- ---- a trial
+
+pub trial_whole : (text : Option Bytes) (old new : Option Bytes) (a b : Unit) → trial.Puts text old new (Ok a) → Puts (ok_or text refusal.Full) old new (Ok b)
+trial_whole (Some text) old new a b p = p
+trial_whole None old new a b p = absurd p
+
+pub trial_refused : (text : Option Bytes) (old new : Option Bytes) (e : TrialFault) → trial.Puts text old new (Err e) → Puts (ok_or text refusal.Full) old new (Err (trial_refusal e))
+trial_refused (Some text) old new of_trial.Write p = p
+trial_refused (Some text) old new of_trial.Memory p = tt
+trial_refused (Some text) old new of_trial.Full p = absurd p
+trial_refused None old new of_trial.Write p = absurd p
+trial_refused None old new of_trial.Memory p = tt
+trial_refused None old new of_trial.Full p = refl
+
+-- it has no cause in a file, and is none of words
+pub trial_cause : (P Q R T U : Type 0) (e : TrialFault) → CauseOf P Q R T U (trial_refusal e)
+trial_cause P Q R T U of_trial.Full = tt
+trial_cause P Q R T U of_trial.Write = tt
+trial_cause P Q R T U of_trial.Memory = tt
+
+pub trial_bare : (e : TrialFault) → EndsBare (status_of (trial_refusal e))
+trial_bare of_trial.Full = tt
+trial_bare of_trial.Write = tt
+trial_bare of_trial.Memory = tt
+
+pub not_tried : (e : TrialFault) → trial_refusal e ≢ refusal.Usage
+not_tried of_trial.Full is = cc
+not_tried of_trial.Write is = cc
+not_tried of_trial.Memory is = cc
+
+pub trial_write : (e : TrialFault) → trial_refusal e ≡ refusal.Write → e ≡ of_trial.Write
+trial_write of_trial.Full is = absurd cc
+trial_write of_trial.Write is = refl
+trial_write of_trial.Memory is = absurd cc

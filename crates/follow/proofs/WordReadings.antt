@@ -7,6 +7,7 @@ use Rattle.std.proofs.lemmas.Option.{option_and_then_some}
 use Rattle.std.proofs.lemmas.Slice.Eq.{bytes_eq-Decides, starts_is}
 use Rattle.kit.specs.Cuts.{strip_prefix}
 use Rattle.follow.specs.declared.words.Command.{Command}
+use Rattle.answers.specs.declared.question.Question.TheVariants as question
 use Rattle.follow.specs.declared.words.Command.TheVariants as command
 use Rattle.follow.specs.declared.words.Request.{Request}
 use Rattle.follow.specs.Grammar.{IsOption, AreOptions, IsCommand, IsRequest, IsNoRequest}
@@ -136,9 +137,9 @@ alone_is : (name : List ℕ) (c : Command) → of_name name ≡ Some c → IsCom
 alone_is name c e = from (bytes_eq name (codes "list")) (bytes_eq name (codes "contacts")) refl refl e
   where
     from : (t u : Bool) → bytes_eq name (codes "list") ≡ t → bytes_eq name (codes "contacts") ≡ u
-        → (if t then Some command.List else if u then Some command.Contacts else None) ≡ Some c → IsCommand c (name ∷ [])
-    from true u is is-2 e = (let read : command.List ≡ c = cc in subst (λ d. IsCommand d (name ∷ [])) read (named _ name _ [] is ListChats))
-    from false true is is-2 e = (let read : command.Contacts ≡ c = cc in subst (λ d. IsCommand d (name ∷ [])) read (named _ name _ [] is-2 ListContacts))
+        → (if t then Some (command.Ask question.List) else if u then Some (command.Ask question.Contacts) else None) ≡ Some c → IsCommand c (name ∷ [])
+    from true u is is-2 e = (let read : (command.Ask question.List) ≡ c = cc in subst (λ d. IsCommand d (name ∷ [])) read (named _ name _ [] is ListChats))
+    from false true is is-2 e = (let read : (command.Ask question.Contacts) ≡ c = cc in subst (λ d. IsCommand d (name ∷ [])) read (named _ name _ [] is-2 ListContacts))
     from false false is is-2 e = absurd cc
 
 value_is : (name value : List ℕ) (c : Command) → is_value value ≡ true → of_value name value ≡ Some c → IsCommand c (name ∷ value ∷ [])
@@ -149,28 +150,28 @@ value_is name value c plain e = from (bytes_eq name (codes "chat")) (bytes_eq na
     trial (Some n) o e = (let read : command.Trial n ≡ c = cc in subst (λ d. IsCommand d (codes "trial" ∷ value ∷ [])) read (MakeTrial value n plain o))
 
     from : (t u v : Bool) → bytes_eq name (codes "chat") ≡ t → bytes_eq name (codes "updates") ≡ u → bytes_eq name (codes "trial") ≡ v
-        → (if t then Some (command.Chat value) else if u then Some (command.Updates value false) else if v then option_map command.Trial (trial_of value) else None) ≡ Some c
+        → (if t then Some (command.Ask (question.Chat value)) else if u then Some (command.Ask (question.Updates value false)) else if v then option_map command.Trial (trial_of value) else None) ≡ Some c
         → IsCommand c (name ∷ value ∷ [])
-    from true u v is is-2 is-3 e = (let read : command.Chat value ≡ c = cc in subst (λ d. IsCommand d (name ∷ value ∷ [])) read (named _ name _ (value ∷ []) is (ShowChat value plain)))
-    from false true v is is-2 is-3 e = (let read : command.Updates value false ≡ c = cc in subst (λ d. IsCommand d (name ∷ value ∷ [])) read (named _ name _ (value ∷ []) is-2 (ShowUpdates value plain)))
+    from true u v is is-2 is-3 e = (let read : command.Ask (question.Chat value) ≡ c = cc in subst (λ d. IsCommand d (name ∷ value ∷ [])) read (named _ name _ (value ∷ []) is (ShowChat value plain)))
+    from false true v is is-2 is-3 e = (let read : command.Ask (question.Updates value false) ≡ c = cc in subst (λ d. IsCommand d (name ∷ value ∷ [])) read (named _ name _ (value ∷ []) is-2 (ShowUpdates value plain)))
     from false false true is is-2 is-3 e = named c name _ (value ∷ []) is-3 (trial (trial_of value) refl e)
     from false false false is is-2 is-3 e = absurd cc
 
 info_first : (a b : List ℕ) (c : Command) → bytes_eq a (codes "--info") ≡ true → with_info b ≡ Some c → IsCommand c (codes "updates" ∷ a ∷ b ∷ [])
 info_first a b c is e = from (is_value b) refl e
   where
-    from : (t : Bool) → is_value b ≡ t → (if t then Some (command.Updates b true) else None) ≡ Some c → IsCommand c (codes "updates" ∷ a ∷ b ∷ [])
+    from : (t : Bool) → is_value b ≡ t → (if t then Some (command.Ask (question.Updates b true)) else None) ≡ Some c → IsCommand c (codes "updates" ∷ a ∷ b ∷ [])
     from false v e = absurd cc
-    from true v e = (let read : command.Updates b true ≡ c = cc in subst (λ d. IsCommand d (codes "updates" ∷ a ∷ b ∷ [])) read
-        (subst (λ i. IsCommand (command.Updates b true) (codes "updates" ∷ i ∷ b ∷ [])) (sym (same a (codes "--info") is)) (InfoFirst b v)))
+    from true v e = (let read : command.Ask (question.Updates b true) ≡ c = cc in subst (λ d. IsCommand d (codes "updates" ∷ a ∷ b ∷ [])) read
+        (subst (λ i. IsCommand (command.Ask (question.Updates b true)) (codes "updates" ∷ i ∷ b ∷ [])) (sym (same a (codes "--info") is)) (InfoFirst b v)))
 
 info_last : (a b : List ℕ) (c : Command) → bytes_eq b (codes "--info") ≡ true → with_info a ≡ Some c → IsCommand c (codes "updates" ∷ a ∷ b ∷ [])
 info_last a b c is e = from (is_value a) refl e
   where
-    from : (t : Bool) → is_value a ≡ t → (if t then Some (command.Updates a true) else None) ≡ Some c → IsCommand c (codes "updates" ∷ a ∷ b ∷ [])
+    from : (t : Bool) → is_value a ≡ t → (if t then Some (command.Ask (question.Updates a true)) else None) ≡ Some c → IsCommand c (codes "updates" ∷ a ∷ b ∷ [])
     from false v e = absurd cc
-    from true v e = (let read : command.Updates a true ≡ c = cc in subst (λ d. IsCommand d (codes "updates" ∷ a ∷ b ∷ [])) read
-        (subst (λ i. IsCommand (command.Updates a true) (codes "updates" ∷ a ∷ i ∷ [])) (sym (same b (codes "--info") is)) (InfoLast a v)))
+    from true v e = (let read : command.Ask (question.Updates a true) ≡ c = cc in subst (λ d. IsCommand d (codes "updates" ∷ a ∷ b ∷ [])) read
+        (subst (λ i. IsCommand (command.Ask (question.Updates a true)) (codes "updates" ∷ a ∷ i ∷ [])) (sym (same b (codes "--info") is)) (InfoLast a v)))
 
 info_is : (a b : List ℕ) (c : Command) → of_info a b ≡ Some c → IsCommand c (codes "updates" ∷ a ∷ b ∷ [])
 info_is a b c e = from (bytes_eq a (codes "--info")) (bytes_eq b (codes "--info")) refl refl e

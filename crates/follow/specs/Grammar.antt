@@ -1,6 +1,7 @@
 -- The grammar of a command line: how each request is written.
 use Rattle.std.specs.Prelude.{◌≡◌, ℕ, true, false, codes, List, [], ◌∷◌, ◌++◌, Option, Some, None}
 use Rattle.follow.specs.declared.words.Command.{Command}
+use Rattle.answers.specs.declared.question.Question.TheVariants as question
 use Rattle.follow.specs.declared.words.Command.TheVariants as command
 use Rattle.follow.specs.declared.words.Request.{Request}
 use Rattle.follow.specs.Words.{is_value, moment_of, own_address, trial_of}
@@ -26,12 +27,12 @@ pub data AreOptions (me : List ℕ) : Option ℕ → List (List ℕ) → Type 0 
 
 -- a command, its name first
 pub data IsCommand : Command → List (List ℕ) → Type 0 where
-  ListChats : IsCommand command.List (codes "list" ∷ [])
-  ListContacts : IsCommand command.Contacts (codes "contacts" ∷ [])
-  ShowChat : (key : List ℕ) → is_value key ≡ true → IsCommand (command.Chat key) (codes "chat" ∷ key ∷ [])
-  ShowUpdates : (id : List ℕ) → is_value id ≡ true → IsCommand (command.Updates id false) (codes "updates" ∷ id ∷ [])
-  InfoFirst : (id : List ℕ) → is_value id ≡ true → IsCommand (command.Updates id true) (codes "updates" ∷ codes "--info" ∷ id ∷ [])
-  InfoLast : (id : List ℕ) → is_value id ≡ true → IsCommand (command.Updates id true) (codes "updates" ∷ id ∷ codes "--info" ∷ [])
+  ListChats : IsCommand (command.Ask question.List) (codes "list" ∷ [])
+  ListContacts : IsCommand (command.Ask question.Contacts) (codes "contacts" ∷ [])
+  ShowChat : (key : List ℕ) → is_value key ≡ true → IsCommand (command.Ask (question.Chat key)) (codes "chat" ∷ key ∷ [])
+  ShowUpdates : (id : List ℕ) → is_value id ≡ true → IsCommand (command.Ask (question.Updates id false)) (codes "updates" ∷ id ∷ [])
+  InfoFirst : (id : List ℕ) → is_value id ≡ true → IsCommand (command.Ask (question.Updates id true)) (codes "updates" ∷ codes "--info" ∷ id ∷ [])
+  InfoLast : (id : List ℕ) → is_value id ≡ true → IsCommand (command.Ask (question.Updates id true)) (codes "updates" ∷ id ∷ codes "--info" ∷ [])
   MakeTrial : (text : List ℕ) (number : ℕ) → is_value text ≡ true → trial_of text ≡ Some number → IsCommand (command.Trial number) (codes "trial" ∷ text ∷ [])
 
 -- a request: the options, and a command after them

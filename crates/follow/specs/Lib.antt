@@ -1,7 +1,6 @@
 -- What public clauses cite.
 pub mod Words
 pub mod Grammar
-pub mod Questions
 pub mod Statuses
 pub mod Outcome
 pub mod Rest

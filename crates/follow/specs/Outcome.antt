@@ -1,5 +1,5 @@
 -- What a run answers and keeps, by its words and by what its devices give.
-use Rattle.std.specs.Prelude.{◌≡◌, ◌⊎◌, ◌≤◌, ℕ, ◌^◌, Bool, true, false, ◌&&◌, not, nat_lt, bytes_eq, if◌then◌else◌, List, length, Result, Ok, Err, Option, None, Some, option_map, is_none, is_some, unwrap_or, ⊤}
+use Rattle.std.specs.Prelude.{◌≡◌, ◌⊎◌, ◌≤◌, ℕ, ◌+◌, ◌^◌, Bool, true, false, ◌&&◌, not, nat_lt, bytes_eq, if◌then◌else◌, List, length, Result, Ok, Err, Option, None, Some, ok_or, option_map, is_none, is_some, unwrap_or, ⊤}
 use Rattle.std.specs.Borrow.{MutBor}
 use Rattle.std.specs.Result.{result_map_both}
 use Rattle.std.specs.Io.KnownBytes.{Appends, Consumes}
@@ -13,10 +13,16 @@ use Rattle.mailbox_model.specs.Lists.{Bytes}
 use Rattle.state_image.specs.declared.position.Position.{Position}
 use Rattle.state_store.specs.States.{State}
 use Rattle.state_store.specs.Stands.{stands}
+use Rattle.state_store.specs.Commits.{Fill}
+use Rattle.state_store.specs.Stored.{fill_in}
+use Rattle.keeper.specs.Opening.{load_of}
 use Rattle.answers.specs.Answers.{answer_of}
+use Rattle.answers.specs.Costs.{answer_cost}
 use Rattle.answers.specs.declared.question.Question.{Question}
 use Rattle.follower.specs.declared.fault.Input.{Input}
 use Rattle.follower.specs.declared.fault.Input.TheVariants.{Mbox, Steps}
+use Rattle.follow.specs.declared.words.Command.{Command}
+use Rattle.follow.specs.declared.words.Command.TheVariants as command
 use Rattle.follow.specs.declared.words.Request.{Request}
 use Rattle.follow.specs.declared.status.Refusal.{Refusal}
 use Rattle.follow.specs.declared.status.Refusal.TheVariants as refusal
@@ -26,18 +32,21 @@ use Rattle.follow.specs.Words.{request}
 use Rattle.follower.specs.Committing.{Prefix, committed}
 use Rattle.follower.specs.Feed.{Feed, feed}
 use Rattle.follower.specs.Reached.{Reached, Stop, Full, BadStep, reached}
-use Rattle.follow.specs.Questions.{question_of}
+use Rattle.follower.specs.Spending.{Counts, counts, run_spends}
+use Rattle.trial.specs.Costs.{trial_cost}
+use Rattle.trial.specs.Summaries.{trial_text}
 use Rattle.follow.specs.Statuses.{answer_refusal, line_of, status_of}
 
 -- ---- what comes of following
 
--- What a run finds: the own address, the mbox, the steps file where one is given, the state that stands, or where what is
--- kept is damaged, and a moment where one comes.
+-- What a run goes by: the own address, the mbox, the steps file where one is given, the state that stands, or where what is
+-- kept is damaged, how full the store is, and a moment where one comes.
 pub record Given : Type 0 where
   pub me : Bytes
   pub mbox : Bytes
   pub steps : Option Bytes
   pub stand : Result State (Place × ℕ)
+  pub fill : Fill
   pub moment : Option ℕ
 
 -- the changes of a run from this state
@@ -102,51 +111,75 @@ result q g = replied q (followed g)
 
 -- ---- the outcome of a run
 
--- why a run ends before it reads anything
-abbrev pub early_if : Option Question → Option Refusal
-early_if (Some q) = None
-early_if None = Some refusal.Unbuilt
+-- whether a command asks for an answer, and does not make a trial
+abbrev pub asks : Command → Bool
+asks (command.Ask q) = true
+asks (command.Trial number) = false
 
-abbrev pub early : Option Request → Option Refusal
-early None = Some refusal.Usage
-early (Some r) = early_if (question_of r.command)
+-- whether a run follows its files: its words are a request, and ask for an answer
+abbrev pub follows : Option Request → Bool
+follows None = false
+follows (Some r) = asks r.command
 
--- whether a run needs the clock: it follows its files, and neither the words nor a steps file tell the moment
+-- whether it needs the clock: neither the words nor a steps file tell the moment
 abbrev pub needs_clock : Option Request → Bool → Bool
 needs_clock None given = false
-needs_clock (Some r) given = is_some (question_of r.command) && not given && is_none r.at
+needs_clock (Some r) given = asks r.command && not given && is_none r.at
 
 -- The moment that comes: with a steps file that of the words, if they give one, and without one theirs or the clock's.
 abbrev pub moment_of_run : Option ℕ → Bool → ℕ → Option ℕ
 moment_of_run at true clock = at
 moment_of_run at false clock = Some (unwrap_or at clock)
 
--- what a run finds, of the own address and the moment of its words, its files, the shelf and the clock's moment
-abbrev pub given_of : Bytes → Option ℕ → Bytes → Option Bytes → Places → ℕ → Given
-given_of me at mbox steps places clock = record {
+-- what a run finds: the mbox, the steps file where one is given, what the shelf keeps, and the clock's moment
+pub record Found : Type 0 where
+  pub mbox : Bytes
+  pub steps : Option Bytes
+  pub places : Places
+  pub clock : ℕ
+
+-- so of a run over the mbox alone, and over a steps file too
+abbrev pub mbox_found : Bytes → Places → ℕ → Found
+mbox_found mbox places clock = record { mbox = mbox; steps = None; places = places; clock = clock }
+
+abbrev pub steps_found : Bytes → Bytes → Places → ℕ → Found
+steps_found mbox steps places clock = record { mbox = mbox; steps = Some steps; places = places; clock = clock }
+
+-- what it goes by, of the own address and the moment of its words, and of what it finds
+abbrev pub given_of : Bytes → Option ℕ → Found → Given
+given_of me at found = record {
   me = me;
-  mbox = mbox;
-  steps = steps;
-  stand = stands me places;
-  moment = moment_of_run at (is_some steps) clock;
+  mbox = found.mbox;
+  steps = found.steps;
+  stand = stands me found.places;
+  fill = fill_in found.places;
+  moment = moment_of_run at (is_some found.steps) found.clock;
 }
 
--- the same where the words are a request
-abbrev pub given_in : Option Request → Bytes → Option Bytes → Places → ℕ → Option Given
-given_in asked mbox steps places clock = option_map (λ r. given_of r.me r.at mbox steps places clock) asked
+-- the same where the words ask for an answer
+abbrev pub given_by : Command → Given → Option Given
+given_by (command.Ask q) g = Some g
+given_by (command.Trial number) g = None
 
--- the answer, or why there is none
-abbrev pub answered : Option Question → Given → Result Bytes Refusal
-answered None g = Err refusal.Unbuilt
-answered (Some q) g = result q g
+abbrev pub given_in : Option Request → Found → Option Given
+given_in None found = None
+given_in (Some r) found = given_by r.command (given_of r.me r.at found)
 
-abbrev pub outcome_of : Option Request → Bytes → Option Bytes → Places → ℕ → Result Bytes Refusal
-outcome_of None mbox steps places clock = Err refusal.Usage
-outcome_of (Some r) mbox steps places clock = answered (question_of r.command) (given_of r.me r.at mbox steps places clock)
+-- the summary of a trial, where the mailbox has a place for each of its mails
+abbrev pub trial_result : Bytes → ℕ → Result Bytes Refusal
+trial_result me number = ok_or (trial_text me number) refusal.Full
 
--- of the words, the mbox, the steps file where one is given, the contents of the shelf, and the clock's moment
-abbrev pub outcome : List Bytes → Bytes → Option Bytes → Places → ℕ → Result Bytes Refusal
-outcome words mbox steps places clock = outcome_of (request words) mbox steps places clock
+abbrev pub outcome_by : Command → Bytes → Given → Result Bytes Refusal
+outcome_by (command.Ask q) me g = result q g
+outcome_by (command.Trial number) me g = trial_result me number
+
+abbrev pub outcome_of : Option Request → Found → Result Bytes Refusal
+outcome_of None found = Err refusal.Usage
+outcome_of (Some r) found = outcome_by r.command r.me (given_of r.me r.at found)
+
+-- of the words and of what is found
+abbrev pub outcome : List Bytes → Found → Result Bytes Refusal
+outcome words found = outcome_of (request words) found
 
 -- ---- what is kept
 
@@ -187,7 +220,46 @@ abbrev pub LastIf : Option Given → Status → (Places → Type 0) → Type 0
 LastIf (Some g) s outcomes = OnLast s (KeepsAll g outcomes)
 LastIf None s outcomes = ⊤
 
+-- ---- what is read and written
+
+-- by the commits, where the changes are followed
+abbrev pub commits_from : Given → State → Option Refusal → Counts
+commits_from g s None = run_spends s g.fill (changes g s)
+commits_from g s (Some why) = counts 0 0
+
+abbrev pub commits_if : Given → Result State (Place × ℕ) → Counts
+commits_if g (Ok s) = commits_from g s (unfit g s)
+commits_if g (Err damage) = counts 0 0
+
+-- by opening and by all commits, at most
+abbrev pub follow_spends : Given → Counts
+follow_spends g = counts (load_of g.stand + (commits_if g g.stand).reads) (commits_if g g.stand).written
+
+-- by the answer, where all changes are made
+abbrev pub answer_reads : Question → Result Reached Refusal → ℕ
+answer_reads q (Ok r) = if is_none r.stop then answer_cost r.state.mailbox q else 0
+answer_reads q (Err why) = 0
+
+abbrev pub asked_cost : Question → Given → Counts
+asked_cost q g = counts ((follow_spends g).reads + answer_reads q (followed g)) (follow_spends g).written
+
+-- by a run of these words, at most
+abbrev pub cost_by : Command → Bytes → Given → Counts
+cost_by (command.Ask q) me g = asked_cost q g
+cost_by (command.Trial number) me g = counts (trial_cost me number) 0
+
+abbrev pub cost_of : Option Request → Found → Counts
+cost_of None found = counts 0 0
+cost_of (Some r) found = cost_by r.command r.me (given_of r.me r.at found)
+
 -- ---- what devices tell
+
+-- the devices tell that this is found
+pub record Tells (mbox : Option Bytes) (IsSteps : Option Bytes → Type 0) (seen : Option Places) (IsClock : ℕ → Type 0) (found : Found) : Type 0 where
+  pub mbox_is : mbox ≡ Some found.mbox
+  pub steps_is : IsSteps found.steps
+  pub places_is : seen ≡ Some found.places
+  pub clock_is : IsClock found.clock
 
 -- these are the bytes that the steps file has left: it tells them where it is given, and there are none where it is not
 abbrev pub TellsSteps : Bool → Option Bytes → Option Bytes → Type 0
@@ -215,12 +287,25 @@ abbrev pub ClockGives : Bool → Option ℕ → ℕ → Type 0
 ClockGives false next moment = ⊤
 ClockGives true next moment = next ≡ Some moment
 
+-- the same of a run of these words, where it follows its files
+abbrev pub Finds : Option Request → Bool → Option Bytes → (Option Bytes → Type 0) → Option Places → Option ℕ → Found → Type 0
+Finds asked given mbox IsSteps seen next found = follows asked ≡ true → Tells mbox IsSteps seen (ClockGives (needs_clock asked given) next) found
+
 -- ---- statuses
 
 -- A status comes exactly where this holds, unless memory runs out.
 pub record ComesWhere (answered : Status) (holds : Type 0) (result : Status) : Type 0 where
   pub only : result ≡ answered → holds
   pub always : holds → (result ≡ answered) ⊎ (result ≡ status.Memory)
+
+-- how a run may end that follows no files
+abbrev pub EndsBare : Status → Type 0
+EndsBare status.Ok = ⊤
+EndsBare status.Usage = ⊤
+EndsBare status.Write = ⊤
+EndsBare status.Memory = ⊤
+EndsBare status.Full = ⊤
+EndsBare _ = ⊥
 
 -- A status other than Read, Disk, Endless and Memory is the outcome's; Write comes only where the outcome is an answer.
 abbrev pub Agrees : Result Bytes Refusal → Status → Type 0

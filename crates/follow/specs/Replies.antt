@@ -14,8 +14,8 @@ use Rattle.keeper.specs.Opening.{IsOthers}
 use Rattle.follower.specs.declared.fault.Input.TheVariants.{Mbox}
 use Rattle.follower.specs.declared.fault.RunFault.{RunFault}
 use Rattle.follower.specs.declared.fault.RunFault.TheVariants as fault
-use Rattle.follower.specs.Committing.{AllStand, Ends, HaltsAt}
-use Rattle.follower.specs.Feed.{Feed, mails_left}
+use Rattle.follower.specs.Committing.{AllStand}
+use Rattle.follower.specs.Feed.{mails_left}
 use Rattle.follower.specs.Following.{Following, mails_ahead}
 use Rattle.follower.specs.Reached.{Reached, Full, BadStep}
 use Rattle.follow.specs.declared.status.Refusal.{Refusal}
@@ -92,11 +92,6 @@ FollowGoes (Err why) g outcomes = FollowStops why g outcomes
 -- this state stands
 abbrev pub IsState : State → Places → Type 0
 IsState s places = stands s.mailbox.me places ≡ Ok s
-
--- all changes are made and kept, or this is why they come to no end
-abbrev pub EndGoes : Result Unit RunFault → State → Feed → Following → (Places → Type 0) → Type 0
-EndGoes (Ok _) start feed f outcomes = Ends start feed f.keeper outcomes
-EndGoes (Err why) start feed f outcomes = HaltsAt why start feed outcomes
 
 -- ---- the bytes that were taken
 

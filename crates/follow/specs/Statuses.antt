@@ -9,6 +9,8 @@ use Rattle.answers.specs.declared.fault.AnswerFault.TheVariants as answer
 use Rattle.follower.specs.declared.fault.Input.TheVariants.{Mbox, Steps}
 use Rattle.follower.specs.declared.fault.RunFault.{RunFault}
 use Rattle.follower.specs.declared.fault.RunFault.TheVariants as fault
+use Rattle.trial.specs.declared.fault.TrialFault.{TrialFault}
+use Rattle.trial.specs.declared.fault.TrialFault.TheVariants as of_trial
 use Rattle.follow.specs.declared.status.Refusal.{Refusal}
 use Rattle.follow.specs.declared.status.Refusal.TheVariants as refusal
 use Rattle.follow.specs.declared.status.Status.{Status}
@@ -29,7 +31,6 @@ code_of status.Short = 10
 code_of status.OtherMe = 11
 code_of status.Endless = 12
 code_of status.NoApp = 14
-code_of status.Unbuilt = 15
 
 abbrev pub status_of : Refusal → Status
 status_of refusal.Usage = status.Usage
@@ -45,7 +46,6 @@ status_of (refusal.Short input) = status.Short
 status_of (refusal.OtherMe kept me) = status.OtherMe
 status_of (refusal.Endless input) = status.Endless
 status_of refusal.NoApp = status.NoApp
-status_of refusal.Unbuilt = status.Unbuilt
 
 -- a run for this address is refused where its files can't be followed
 abbrev pub refusal_of : Bytes → RunFault → Refusal
@@ -90,13 +90,17 @@ line_of (refusal.OtherMe kept me) = codes "chats: other address " ++ kept ++ cod
 line_of (refusal.Endless Mbox) = codes "chats: endless mbox\n"
 line_of (refusal.Endless Steps) = codes "chats: endless steps\n"
 line_of refusal.NoApp = codes "chats: no such app\n"
-line_of refusal.Unbuilt = codes "chats: not built yet\n"
 
 abbrev pub answer_refusal : AnswerFault → Refusal
 answer_refusal answer.NoChat = refusal.NoChat
 answer_refusal answer.NoApp = refusal.NoApp
 answer_refusal answer.Write = refusal.Write
 answer_refusal answer.Memory = refusal.Memory
+
+abbrev pub trial_refusal : TrialFault → Refusal
+trial_refusal of_trial.Full = refusal.Full
+trial_refusal of_trial.Write = refusal.Write
+trial_refusal of_trial.Memory = refusal.Memory
 
 -- how a run ends whose reply this is
 abbrev pub status_in : Result Unit Refusal → Status

@@ -8,6 +8,7 @@ use Rattle.mail_address.specs.declared.person.Person.{Person}
 use Rattle.mail_address.specs.People.{people}
 use Rattle.kit.specs.Numbers.{number}
 use Rattle.follow.specs.declared.words.Command.{Command}
+use Rattle.answers.specs.declared.question.Question.TheVariants as question
 use Rattle.follow.specs.declared.words.Command.TheVariants as command
 use Rattle.follow.specs.declared.words.Request.{Request}
 
@@ -67,21 +68,21 @@ trial_of word = number 1 20 word >>= λ n. if nat_lt n (2 ^ 64) then Some n else
 -- a command of its name alone
 abbrev pub of_name : List ℕ → Option Command
 of_name name =
-    if bytes_eq name (codes "list") then Some command.List
-    else if bytes_eq name (codes "contacts") then Some command.Contacts
+    if bytes_eq name (codes "list") then Some (command.Ask question.List)
+    else if bytes_eq name (codes "contacts") then Some (command.Ask question.Contacts)
     else None
 
 -- a command of its name and a value
 abbrev pub of_value : List ℕ → List ℕ → Option Command
 of_value name value =
-    if bytes_eq name (codes "chat") then Some (command.Chat value)
-    else if bytes_eq name (codes "updates") then Some (command.Updates value false)
+    if bytes_eq name (codes "chat") then Some (command.Ask (question.Chat value))
+    else if bytes_eq name (codes "updates") then Some (command.Ask (question.Updates value false))
     else if bytes_eq name (codes "trial") then option_map command.Trial (trial_of value)
     else None
 
 -- `updates` with `--info` on either side of its value
 abbrev pub with_info : List ℕ → Option Command
-with_info id = if is_value id then Some (command.Updates id true) else None
+with_info id = if is_value id then Some (command.Ask (question.Updates id true)) else None
 
 abbrev pub of_info : List ℕ → List ℕ → Option Command
 of_info a b =

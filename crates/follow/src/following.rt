@@ -1,22 +1,25 @@
 //! A run follows its files: it opens what is kept, goes on from there, and commits.
-ghost use Rattle.std.specs.Prelude.{◌≡◌, ◌≤◌, ◌^◌, ◌&&◌, List, ℕ, Option, [], None, Some, false, IfErr, IfOk, IfSome, OnOk, is_none, not, unwrap_or};
+ghost use Rattle.std.specs.Prelude.{◌≡◌, ◌≤◌, ◌+◌, ◌^◌, ◌&&◌, List, ℕ, [], None, Some, false, IfErr, IfOk, IfSome, OnOk, is_none, not, unwrap_or};
 ghost use Rattle.kit.specs.Moments.{last_moment};
 ghost use Rattle.mailbox_model.specs.Lists.{Bytes};
 ghost use Rattle.outside.specs.Causes.{Rose};
 ghost use Rattle.outside.specs.Moments.{IsKnown, LeavesOnly, Reached, WhereKnown};
 ghost use Rattle.outside.specs.Places.{Places};
 ghost use Rattle.state_store.specs.Stands.{stands};
-ghost use Rattle.state_store.specs.Stored.{IsStored};
+ghost use Rattle.state_store.specs.Commits.{fill_of};
+ghost use Rattle.state_store.specs.Stored.{IsStored, fill_in};
 ghost use Rattle.keeper.specs.Keeping.{IsKept};
+ghost use Rattle.keeper.specs.Opening.{load_of};
 ghost use Rattle.keeper.specs.Pending.{none_pending};
 ghost use Rattle.mboxrd.specs.Mails.{Mail};
 ghost use Rattle.mboxrd.specs.Reading as mbox_reading;
 ghost use Rattle.steps_file.specs.Reading as steps_reading;
-ghost use Rattle.follower.specs.Committing.{Prefix};
+ghost use Rattle.follower.specs.Committing.{EndGoes, Prefix, outset};
 ghost use Rattle.follower.specs.Feed.{Feed, mails_feed};
 ghost use Rattle.follower.specs.Following.{IsCause, IsFollowFault, mails_ahead, to_come};
-ghost use Rattle.follow.specs.Outcome.{AsksClock, CauseOf, ClockGives, MayStand, SameState, TakesAll, TakesUpTo, TellsSteps, given_of, mbox_budget, steps_budget};
-ghost use Rattle.follow.specs.Replies.{BeginGoes, EndGoes, FollowGoes, IsState, Took};
+ghost use Rattle.follower.specs.Spending.{RoseWithin, counts};
+ghost use Rattle.follow.specs.Outcome.{AsksClock, CauseOf, ClockGives, Found, MayStand, SameState, TakesAll, TakesUpTo, Tells, TellsSteps, follow_spends, given_of, mbox_budget, mbox_found, steps_budget, steps_found};
+ghost use Rattle.follow.specs.Replies.{BeginGoes, FollowGoes, IsState, Took};
 ghost use Rattle.follow.specs.Statuses.{refusal_of};
 
 use follower::{Follower, RunFault, commit_all, follow_lines, follow_mails, make_last};
@@ -49,6 +52,9 @@ fn begin<M: Source, H: Shelf, L: Ledger>(
     ensures goes { (bytes : Bytes) (places : Places) → M.left mbox.old ≡ Some bytes → H.seen shelf.old ≡ Some places
         → LeavesOnly H.moment H.left_since shelf.old shelf.new (Reached (H.may_leave shelf.old) (SameState me.now))
         × BeginGoes me.now bytes (stands me.now places) result (M.left mbox.new) (H.seen shelf.new) (H.may_leave shelf.new) }
+    ensures fill { IfOk result (λ f. WhereKnown (H.seen shelf.old) (λ places. fill_of f.keeper.store ≡ fill_in places)) }
+    ensures cost { WhereKnown (H.seen shelf.old) (λ places. steps.new ≤ steps.old + load_of (stands me.now places)) }
+    ensures written { H.written shelf.new ≡ H.written shelf.old }
     ensures usable { IfOk result (λ f. f.failed ≡ false) }
     ensures pending { IfOk result (λ f. f.keeper.pending ≡ none_pending) }
     ensures kept { IfOk result (λ f. WhereKnown (H.seen shelf.new) (IsKept f.keeper)) }
@@ -82,7 +88,8 @@ fn follow_mails_to_end<M: Source, H: Shelf, L: Ledger>(
     ensures goes { (rest : Bytes) (mails : List Mail) → M.left mbox.old ≡ Some rest → mails ≡ mails_ahead follower.old rest
         → IsKnown (H.seen shelf.old) (IsState follower.old.keeper.state)
         → LeavesOnly H.moment H.left_since shelf.old shelf.new (Prefix follower.old.keeper.state (mails_feed follower.old.keeper.state mails (Some moment)))
-        × EndGoes result follower.old.keeper.state (mails_feed follower.old.keeper.state mails (Some moment)) follower.new (H.may_leave shelf.new) }
+        × EndGoes result (outset follower.old.keeper (counts steps.old (H.written shelf.old))) (mails_feed follower.old.keeper.state mails (Some moment))
+        follower.new.keeper (counts steps.new (H.written shelf.new)) (H.may_leave shelf.new) }
     ensures usable { OnOk result (follower.new.failed ≡ false) }
     ensures mbox_later { M.faults mbox.old ≤ M.faults mbox.new }
     ensures shelf_later { H.faults shelf.old ≤ H.faults shelf.new }
@@ -114,7 +121,8 @@ fn follow_lines_to_end<M: Source, S: Source, H: Shelf, L: Ledger>(
     ensures goes { (rest left : Bytes) (feed : Feed) → M.left mbox.old ≡ Some rest → S.left steps_file.old ≡ Some left
         → feed ≡ to_come last follower.old rest (Some left) → IsKnown (H.seen shelf.old) (IsState follower.old.keeper.state)
         → LeavesOnly H.moment H.left_since shelf.old shelf.new (Prefix follower.old.keeper.state feed)
-        × EndGoes result follower.old.keeper.state feed follower.new (H.may_leave shelf.new) }
+        × EndGoes result (outset follower.old.keeper (counts steps.old (H.written shelf.old))) feed
+        follower.new.keeper (counts steps.new (H.written shelf.new)) (H.may_leave shelf.new) }
     ensures usable { OnOk result (follower.new.failed ≡ false) }
     ensures mbox_later { M.faults mbox.old ≤ M.faults mbox.new }
     ensures steps_later { S.faults steps_file.old ≤ S.faults steps_file.new }
@@ -143,8 +151,12 @@ fn follow_mbox<M: Source, H: Shelf, C: Clock, L: Ledger>(
     requires { IfSome at (λ moment. moment ≤ last_moment) }
     ensures goes { (bytes : Bytes) (places : Places) (next : ℕ) → M.left mbox.old ≡ Some bytes → H.seen shelf.old ≡ Some places
         → ClockGives (is_none at) (C.next clock.old) next
-        → LeavesOnly H.moment H.left_since shelf.old shelf.new (MayStand (given_of me.now at bytes None places next) (H.may_leave shelf.old))
-        × FollowGoes result (given_of me.now at bytes None places next) (H.may_leave shelf.new) }
+        → LeavesOnly H.moment H.left_since shelf.old shelf.new (MayStand (given_of me.now at (mbox_found bytes places next)) (H.may_leave shelf.old))
+        × FollowGoes result (given_of me.now at (mbox_found bytes places next)) (H.may_leave shelf.new) }
+    ensures spends { (bytes : Bytes) (places : Places) (next : ℕ) → M.left mbox.old ≡ Some bytes → H.seen shelf.old ≡ Some places
+        → ClockGives (is_none at) (C.next clock.old) next
+        → RoseWithin (counts steps.old (H.written shelf.old)) (follow_spends (given_of me.now at (mbox_found bytes places next)))
+        (counts steps.new (H.written shelf.new)) }
     ensures usable { IfOk result (λ f. f.failed ≡ false) }
     ensures mbox_later { M.faults mbox.old ≤ M.faults mbox.new }
     ensures shelf_later { H.faults shelf.old ≤ H.faults shelf.new }
@@ -172,8 +184,12 @@ fn follow_steps<M: Source, S: Source, H: Shelf, L: Ledger>(
     requires { IfSome at (λ moment. moment ≤ last_moment) }
     ensures goes { (bytes lines : Bytes) (places : Places) (next : ℕ) → M.left mbox.old ≡ Some bytes → S.left steps_file.old ≡ Some lines
         → H.seen shelf.old ≡ Some places
-        → LeavesOnly H.moment H.left_since shelf.old shelf.new (MayStand (given_of me.now at bytes (Some lines) places next) (H.may_leave shelf.old))
-        × FollowGoes result (given_of me.now at bytes (Some lines) places next) (H.may_leave shelf.new) }
+        → LeavesOnly H.moment H.left_since shelf.old shelf.new (MayStand (given_of me.now at (steps_found bytes lines places next)) (H.may_leave shelf.old))
+        × FollowGoes result (given_of me.now at (steps_found bytes lines places next)) (H.may_leave shelf.new) }
+    ensures spends { (bytes lines : Bytes) (places : Places) (next : ℕ) → M.left mbox.old ≡ Some bytes → S.left steps_file.old ≡ Some lines
+        → H.seen shelf.old ≡ Some places
+        → RoseWithin (counts steps.old (H.written shelf.old)) (follow_spends (given_of me.now at (steps_found bytes lines places next)))
+        (counts steps.new (H.written shelf.new)) }
     ensures usable { IfOk result (λ f. f.failed ≡ false) }
     ensures mbox_later { M.faults mbox.old ≤ M.faults mbox.new }
     ensures steps_later { S.faults steps_file.old ≤ S.faults steps_file.new }
@@ -203,11 +219,13 @@ pub fn follow_files<M: Source, S: Source, H: Shelf, C: Clock, L: Ledger>(
     steps: &mut Steps<L>,
 ) -> Result<Follower, RunFault>
     requires { IfSome at (λ moment. moment ≤ last_moment) }
-    ensures goes { (bytes : Bytes) (lines : Option Bytes) (places : Places) (next : ℕ) → M.left mbox.old ≡ Some bytes
-        → TellsSteps given (S.left steps_file.old) lines → H.seen shelf.old ≡ Some places
-        → ClockGives (not given && is_none at) (C.next clock.old) next
-        → LeavesOnly H.moment H.left_since shelf.old shelf.new (MayStand (given_of me.now at bytes lines places next) (H.may_leave shelf.old))
-        × FollowGoes result (given_of me.now at bytes lines places next) (H.may_leave shelf.new) }
+    ensures goes { (found : Found) → Tells (M.left mbox.old) (TellsSteps given (S.left steps_file.old)) (H.seen shelf.old)
+        (ClockGives (not given && is_none at) (C.next clock.old)) found
+        → LeavesOnly H.moment H.left_since shelf.old shelf.new (MayStand (given_of me.now at found) (H.may_leave shelf.old))
+        × FollowGoes result (given_of me.now at found) (H.may_leave shelf.new) }
+    ensures spends { (found : Found) → Tells (M.left mbox.old) (TellsSteps given (S.left steps_file.old)) (H.seen shelf.old)
+        (ClockGives (not given && is_none at) (C.next clock.old)) found
+        → RoseWithin (counts steps.old (H.written shelf.old)) (follow_spends (given_of me.now at found)) (counts steps.new (H.written shelf.new)) }
     ensures usable { IfOk result (λ f. f.failed ≡ false) }
     ensures shelf_later { H.faults shelf.old ≤ H.faults shelf.new }
     ensures cause { IfErr result (λ why. CauseOf (Rose (M.faults mbox.old) (M.faults mbox.new)) (Rose (S.faults steps_file.old) (S.faults steps_file.new))

@@ -1,6 +1,6 @@
 //! How a run ends, and why it may end without an answer.
 ghost use Rattle.std.specs.Prelude.{◌≡◌, IfOk, string_bytes};
-ghost use Rattle.follow.specs.Statuses.{answer_refusal, line_of, place_name};
+ghost use Rattle.follow.specs.Statuses.{answer_refusal, line_of, place_name, trial_refusal};
 ghost use Rattle.follow.specs.declared.status.Refusal.TheVariants as refusal;
 
 use answers::AnswerFault;
@@ -10,6 +10,7 @@ use outside::Place;
 use std::alloc::Global;
 use std::str;
 use thiserror::Error;
+use trial::TrialFault;
 
 /// How a run ends.
 #[derive(Clone, Copy, Debug, PartialEq, Eq)]
@@ -42,14 +43,12 @@ pub enum Status {
     Endless,
     /// No app is shown that has the id.
     NoApp,
-    /// The program does not answer this command yet.
-    Unbuilt,
 }
 
 impl Status {
     ghost use Rattle.follow.specs.Statuses.{code_of};
 
-    /// The exit status of the program, from 0 to 15. Takes no memory.
+    /// The exit status of the program, from 0 to 14. Takes no memory.
     pub fn code(&self) -> u8
         ensures { result ≡ code_of self.now }
     {
@@ -68,7 +67,6 @@ impl Status {
             Status::OtherMe => 11,
             Status::Endless => 12,
             Status::NoApp => 14,
-            Status::Unbuilt => 15,
         }
     }
 }
@@ -115,9 +113,6 @@ pub enum Refusal {
     /// No app is shown that has the id.
     #[error("no such app")]
     NoApp,
-    /// The program does not answer this command yet.
-    #[error("not built yet")]
-    Unbuilt,
 }
 
 impl From<Memory> for Refusal {
@@ -137,6 +132,18 @@ impl From<AnswerFault> for Refusal {
             AnswerFault::NoApp => Refusal::NoApp,
             AnswerFault::Write => Refusal::Write,
             AnswerFault::Memory => Refusal::Memory,
+        }
+    }
+}
+
+impl From<TrialFault> for Refusal {
+    ghost from_gives = { λ fault why. why ≡ trial_refusal fault };
+
+    fn from(fault: TrialFault) -> Refusal {
+        match fault {
+            TrialFault::Full => Refusal::Full,
+            TrialFault::Write => Refusal::Write,
+            TrialFault::Memory => Refusal::Memory,
         }
     }
 }
@@ -210,7 +217,6 @@ impl Refusal {
             Refusal::OtherMe(..) => Status::OtherMe,
             Refusal::Endless(_) => Status::Endless,
             Refusal::NoApp => Status::NoApp,
-            Refusal::Unbuilt => Status::Unbuilt,
         }
     }
 
@@ -234,7 +240,6 @@ impl Refusal {
             Refusal::Endless(Input::Mbox) => "chats: endless mbox\n",
             Refusal::Endless(Input::Steps) => "chats: endless steps\n",
             Refusal::NoApp => "chats: no such app\n",
-            Refusal::Unbuilt => "chats: not built yet\n",
             Refusal::Steps(_) | Refusal::Damaged(..) | Refusal::OtherMe(..) => unreachable!(),
         }
     }

@@ -1,27 +1,28 @@
 //! The whole run.
-ghost use Rattle.std.specs.Prelude.{◌≡◌, ◌≢◌, ◌≤◌, ◌<◌, ◌⊎◌, Option, Ok, None, Some, ℕ, IfErr, IfSome, IsErrOf, is_none, is_some, length, not, ◌&&◌};
+ghost use Rattle.std.specs.Prelude.{◌≡◌, ◌≢◌, ◌≤◌, ◌<◌, ◌⊎◌, Ok, None, Some, false, IfErr, IfSome, IsErrOf, is_none, is_some, length, not, ◌&&◌};
 ghost use Rattle.std.specs.Io.KnownBytes.{Appends};
 ghost use Rattle.outside.specs.Causes.{Rose};
 ghost use Rattle.outside.specs.Lent.{IfLent};
 ghost use Rattle.outside.specs.Moments.{LeavesOnly};
-ghost use Rattle.outside.specs.Places.{Places};
 ghost use Rattle.kit.specs.Moments.{last_moment};
 ghost use Rattle.mailbox_model.specs.Lists.{Bytes};
+ghost use Rattle.follower.specs.Spending.{RoseWithin, counts};
 ghost use Rattle.follow.specs.Replies.{Puts};
 ghost use Rattle.follow.specs.Grammar.{IsNoRequest};
-ghost use Rattle.follow.specs.Outcome.{Agrees, AsksClock, CauseOf, ClockGives, ComesWhere, IfLentAnd, KeepsAll, LastIf, LentTells, MayStand, MayStandIf, OnLast, PutsAnswer, PutsLine, PutsWhole, TakesAll, TakesUpTo, TellsSteps, early, given_in, given_of, mbox_budget, needs_clock, outcome, result as result_of, steps_budget};
+ghost use Rattle.follow.specs.Outcome.{Agrees, AsksClock, CauseOf, ClockGives, ComesWhere, EndsBare, Finds, Found, IfLentAnd, KeepsAll, LastIf, LentTells, MayStand, MayStandIf, OnLast, PutsAnswer, PutsLine, PutsWhole, TakesAll, TakesUpTo, Tells, TellsSteps, asked_cost, cost_of, follows, given_in, given_of, mbox_budget, needs_clock, outcome, result as result_of, steps_budget};
 ghost use Rattle.follow.specs.Statuses.{line_of, status_in, status_of};
 ghost use Rattle.follow.specs.Words.{request};
 ghost use Rattle.follow.specs.declared.status.Refusal.TheVariants as refusal;
 
 use crate::following::follow_files;
 use crate::status::{Refusal, Status};
-use crate::words::Request;
+use crate::words::{Command, Request};
 use answers::{Question, print_answer};
 use kit::{Addr, Memory, Steps, Text};
 use outside::{Clock, NoSource, Shelf, Sink, Source};
 use std::alloc::Global;
 use std::sync::ledger::Ledger;
+use trial::print_trial;
 
 /// Follows the files and prints the answer to a question, or says why there is none.
 fn reply_to<M: Source, S: Source, H: Shelf, C: Clock, K: Sink, L: Ledger>(
@@ -38,19 +39,19 @@ fn reply_to<M: Source, S: Source, H: Shelf, C: Clock, K: Sink, L: Ledger>(
     steps: &mut Steps<L>,
 ) -> Result<(), Refusal>
     requires { IfSome at (λ moment. moment ≤ last_moment) }
-    ensures puts { (bytes : Bytes) (lines : Option Bytes) (places : Places) (next : ℕ) → M.left mbox.old ≡ Some bytes
-        → TellsSteps given (S.left steps_file.old) lines → H.seen shelf.old ≡ Some places
-        → ClockGives (not given && is_none at) (C.next clock.old) next
-        → Puts (result_of question.now (given_of me at bytes lines places next)) (K.held out.old) (K.held out.new) result }
-    ensures crash { (bytes : Bytes) (lines : Option Bytes) (places : Places) (next : ℕ) → M.left mbox.old ≡ Some bytes
-        → TellsSteps given (S.left steps_file.old) lines → H.seen shelf.old ≡ Some places
-        → ClockGives (not given && is_none at) (C.next clock.old) next
-        → LeavesOnly H.moment H.left_since shelf.old shelf.new (MayStand (given_of me at bytes lines places next) (H.may_leave shelf.old)) }
-    ensures lasting { (bytes : Bytes) (lines : Option Bytes) (places : Places) (next : ℕ) → M.left mbox.old ≡ Some bytes
-        → TellsSteps given (S.left steps_file.old) lines → H.seen shelf.old ≡ Some places
-        → ClockGives (not given && is_none at) (C.next clock.old) next
-        → OnLast (status_in result) (KeepsAll (given_of me at bytes lines places next) (H.may_leave shelf.new)) }
-    ensures no_usage { IfErr result (λ why. (why ≢ refusal.Usage) × (why ≢ refusal.Unbuilt)) }
+    ensures puts { (found : Found) → Tells (M.left mbox.old) (TellsSteps given (S.left steps_file.old)) (H.seen shelf.old)
+        (ClockGives (not given && is_none at) (C.next clock.old)) found
+        → Puts (result_of question.now (given_of me at found)) (K.held out.old) (K.held out.new) result }
+    ensures crash { (found : Found) → Tells (M.left mbox.old) (TellsSteps given (S.left steps_file.old)) (H.seen shelf.old)
+        (ClockGives (not given && is_none at) (C.next clock.old)) found
+        → LeavesOnly H.moment H.left_since shelf.old shelf.new (MayStand (given_of me at found) (H.may_leave shelf.old)) }
+    ensures lasting { (found : Found) → Tells (M.left mbox.old) (TellsSteps given (S.left steps_file.old)) (H.seen shelf.old)
+        (ClockGives (not given && is_none at) (C.next clock.old)) found
+        → OnLast (status_in result) (KeepsAll (given_of me at found) (H.may_leave shelf.new)) }
+    ensures cost { (found : Found) → Tells (M.left mbox.old) (TellsSteps given (S.left steps_file.old)) (H.seen shelf.old)
+        (ClockGives (not given && is_none at) (C.next clock.old)) found
+        → RoseWithin (counts steps.old (H.written shelf.old)) (asked_cost question.now (given_of me at found)) (counts steps.new (H.written shelf.new)) }
+    ensures no_usage { IfErr result (λ why. why ≢ refusal.Usage) }
     ensures write { IsErrOf result Refusal.Write → Rose (K.faults out.old) (K.faults out.new) }
     ensures nothing { IfErr result (λ why. why ≢ refusal.Write → out.new ≡ out.old) }
     ensures cause { IfErr result (CauseOf (Rose (M.faults mbox.old) (M.faults mbox.new)) (Rose (S.faults steps_file.old) (S.faults steps_file.new))
@@ -78,21 +79,21 @@ fn reply<M: Source, S: Source, H: Shelf, C: Clock, K: Sink, L: Ledger>(
     steps: &mut Steps<L>,
 ) -> Result<(), Refusal>
     ensures usage { IsErrOf result Refusal.Usage → request words.now ≡ None }
-    ensures early { IfSome (early (request words.now)) (λ why. IsErrOf result why ⊎ IsErrOf result Refusal.Memory) }
-    ensures unbuilt { IsErrOf result Refusal.Unbuilt → early (request words.now) ≡ Some refusal.Unbuilt }
-    ensures untouched { IfSome (early (request words.now)) (λ why. (mbox.new ≡ mbox.old) × (steps_file.new ≡ steps_file.old) × (shelf.new ≡ shelf.old)) }
-    ensures puts { (bytes : Bytes) (lines : Option Bytes) (places : Places) (next : ℕ) → M.left mbox.old ≡ Some bytes
-        → TellsSteps given (S.left steps_file.old) lines → H.seen shelf.old ≡ Some places
-        → ClockGives (needs_clock (request words.now) given) (C.next clock.old) next
-        → Puts (outcome words.now bytes lines places next) (K.held out.old) (K.held out.new) result }
-    ensures crash { (bytes : Bytes) (lines : Option Bytes) (places : Places) (next : ℕ) → M.left mbox.old ≡ Some bytes
-        → TellsSteps given (S.left steps_file.old) lines → H.seen shelf.old ≡ Some places
-        → ClockGives (needs_clock (request words.now) given) (C.next clock.old) next
-        → LeavesOnly H.moment H.left_since shelf.old shelf.new (MayStandIf (given_in (request words.now) bytes lines places next) (H.may_leave shelf.old)) }
-    ensures lasting { (bytes : Bytes) (lines : Option Bytes) (places : Places) (next : ℕ) → M.left mbox.old ≡ Some bytes
-        → TellsSteps given (S.left steps_file.old) lines → H.seen shelf.old ≡ Some places
-        → ClockGives (needs_clock (request words.now) given) (C.next clock.old) next
-        → LastIf (given_in (request words.now) bytes lines places next) (status_in result) (H.may_leave shelf.new) }
+    ensures none { request words.now ≡ None → IsErrOf result Refusal.Usage ⊎ IsErrOf result Refusal.Memory }
+    ensures bare { follows (request words.now) ≡ false → EndsBare (status_in result) }
+    ensures untouched { follows (request words.now) ≡ false → (mbox.new ≡ mbox.old) × (steps_file.new ≡ steps_file.old) × (shelf.new ≡ shelf.old) }
+    ensures puts { (found : Found) → Finds (request words.now) given (M.left mbox.old) (TellsSteps given (S.left steps_file.old)) (H.seen shelf.old)
+        (C.next clock.old) found
+        → Puts (outcome words.now found) (K.held out.old) (K.held out.new) result }
+    ensures crash { (found : Found) → Finds (request words.now) given (M.left mbox.old) (TellsSteps given (S.left steps_file.old)) (H.seen shelf.old)
+        (C.next clock.old) found
+        → LeavesOnly H.moment H.left_since shelf.old shelf.new (MayStandIf (given_in (request words.now) found) (H.may_leave shelf.old)) }
+    ensures lasting { (found : Found) → Finds (request words.now) given (M.left mbox.old) (TellsSteps given (S.left steps_file.old)) (H.seen shelf.old)
+        (C.next clock.old) found
+        → LastIf (given_in (request words.now) found) (status_in result) (H.may_leave shelf.new) }
+    ensures cost { (found : Found) → Finds (request words.now) given (M.left mbox.old) (TellsSteps given (S.left steps_file.old)) (H.seen shelf.old)
+        (C.next clock.old) found
+        → RoseWithin (counts steps.old (H.written shelf.old)) (cost_of (request words.now) found) (counts steps.new (H.written shelf.new)) }
     ensures write { IsErrOf result Refusal.Write → Rose (K.faults out.old) (K.faults out.new) }
     ensures nothing { IfErr result (λ why. why ≢ refusal.Write → out.new ≡ out.old) }
     ensures cause { IfErr result (CauseOf (Rose (M.faults mbox.old) (M.faults mbox.new)) (Rose (S.faults steps_file.old) (S.faults steps_file.new))
@@ -105,12 +106,12 @@ fn reply<M: Source, S: Source, H: Shelf, C: Clock, K: Sink, L: Ledger>(
         return Err(Refusal::Usage);
     };
     let Request { me, at, command } = request;
-    let Some(question) = command.question() else {
-        return Err(Refusal::Unbuilt);
-    };
-    reply_to(
-        alloc, me, at, &question, given, mbox, steps_file, shelf, clock, out, steps,
-    )
+    match command {
+        Command::Ask(question) => reply_to(
+            alloc, me, at, &question, given, mbox, steps_file, shelf, clock, out, steps,
+        ),
+        Command::Trial(number) => Ok(print_trial(alloc, me, number, out, steps)?),
+    }
 }
 
 /// Puts the line of a refusal, and says how the run ends.
@@ -148,25 +149,24 @@ fn run_given<M: Source, S: Source, H: Shelf, C: Clock, K: Sink, L: Ledger>(
     steps: &mut Steps<L>,
 ) -> Status
     ensures usage { ComesWhere Status.Usage (request words.now ≡ None) result }
-    ensures unbuilt { ComesWhere Status.Unbuilt (early (request words.now) ≡ Some refusal.Unbuilt) result }
-    ensures untouched { IfSome (early (request words.now)) (λ why. (mbox.new ≡ mbox.old) × (steps_file.new ≡ steps_file.old) × (shelf.new ≡ shelf.old)) }
+    ensures bare { follows (request words.now) ≡ false → EndsBare result }
+    ensures untouched { follows (request words.now) ≡ false → (mbox.new ≡ mbox.old) × (steps_file.new ≡ steps_file.old) × (shelf.new ≡ shelf.old) }
     ensures write { result ≡ Status.Write → Rose (K.faults out.old) (K.faults out.new) }
-    ensures status { (bytes : Bytes) (lines : Option Bytes) (places : Places) (next : ℕ) → M.left mbox.old ≡ Some bytes
-        → TellsSteps given (S.left steps_file.old) lines → H.seen shelf.old ≡ Some places
-        → ClockGives (needs_clock (request words.now) given) (C.next clock.old) next
-        → Agrees (outcome words.now bytes lines places next) result }
-    ensures answer { (bytes : Bytes) (lines : Option Bytes) (places : Places) (next : ℕ) → M.left mbox.old ≡ Some bytes
-        → TellsSteps given (S.left steps_file.old) lines → H.seen shelf.old ≡ Some places
-        → ClockGives (needs_clock (request words.now) given) (C.next clock.old) next
-        → PutsAnswer (K.held out.old) (K.held out.new) (outcome words.now bytes lines places next) result }
-    ensures crash { (bytes : Bytes) (lines : Option Bytes) (places : Places) (next : ℕ) → M.left mbox.old ≡ Some bytes
-        → TellsSteps given (S.left steps_file.old) lines → H.seen shelf.old ≡ Some places
-        → ClockGives (needs_clock (request words.now) given) (C.next clock.old) next
-        → LeavesOnly H.moment H.left_since shelf.old shelf.new (MayStandIf (given_in (request words.now) bytes lines places next) (H.may_leave shelf.old)) }
-    ensures lasting { (bytes : Bytes) (lines : Option Bytes) (places : Places) (next : ℕ) → M.left mbox.old ≡ Some bytes
-        → TellsSteps given (S.left steps_file.old) lines → H.seen shelf.old ≡ Some places
-        → ClockGives (needs_clock (request words.now) given) (C.next clock.old) next
-        → LastIf (given_in (request words.now) bytes lines places next) result (H.may_leave shelf.new) }
+    ensures status { (found : Found) → Finds (request words.now) given (M.left mbox.old) (TellsSteps given (S.left steps_file.old)) (H.seen shelf.old)
+        (C.next clock.old) found
+        → Agrees (outcome words.now found) result }
+    ensures answer { (found : Found) → Finds (request words.now) given (M.left mbox.old) (TellsSteps given (S.left steps_file.old)) (H.seen shelf.old)
+        (C.next clock.old) found
+        → PutsAnswer (K.held out.old) (K.held out.new) (outcome words.now found) result }
+    ensures crash { (found : Found) → Finds (request words.now) given (M.left mbox.old) (TellsSteps given (S.left steps_file.old)) (H.seen shelf.old)
+        (C.next clock.old) found
+        → LeavesOnly H.moment H.left_since shelf.old shelf.new (MayStandIf (given_in (request words.now) found) (H.may_leave shelf.old)) }
+    ensures lasting { (found : Found) → Finds (request words.now) given (M.left mbox.old) (TellsSteps given (S.left steps_file.old)) (H.seen shelf.old)
+        (C.next clock.old) found
+        → LastIf (given_in (request words.now) found) result (H.may_leave shelf.new) }
+    ensures cost { (found : Found) → Finds (request words.now) given (M.left mbox.old) (TellsSteps given (S.left steps_file.old)) (H.seen shelf.old)
+        (C.next clock.old) found
+        → RoseWithin (counts steps.old (H.written shelf.old)) (cost_of (request words.now) found) (counts steps.new (H.written shelf.new)) }
     ensures line { PutsLine (K.held out.old) (K.held out.new) (CauseOf (Rose (M.faults mbox.old) (M.faults mbox.new))
         (Rose (S.faults steps_file.old) (S.faults steps_file.new)) (Rose (H.faults shelf.old) (H.faults shelf.new))
         (TakesAll (M.left mbox.old) (M.left mbox.new) mbox_budget)
@@ -193,12 +193,13 @@ fn run_given<M: Source, S: Source, H: Shelf, C: Clock, K: Sink, L: Ledger>(
 /// only there. With a steps file its lines are made in order, and then the moment of `--at` comes, where that is given. Of
 /// the mailbox that this gives the list, a chat, the contacts or the updates of an app are printed.
 ///
-/// - `Usage` comes exactly where the words are written as no request, and `Unbuilt` exactly where the command is `trial`,
-///   or `updates` with `--info`.
+/// The command `trial` makes its mailbox in memory, and prints its summary: no device is used but the sink, and nothing is kept.
+///
+/// - `Usage` comes exactly where the words are written as no request.
 /// - `Read` comes only at a fault of the mbox or the steps file in this call, `Endless` only where 2^36 bytes of the mbox
 ///   or 2^32 bytes of the steps file were taken, `Disk` only at a fault of the shelf, and `Write` only at a fault of the sink. `Memory` may come at any point.
 /// - `Steps` comes exactly at the first ended line of the steps file that is no step, or takes the next mail where there
-///   is none; `Full` exactly at an arrival for which the mailbox has no place, or after 2^62 changes.
+///   is none; `Full` exactly at an arrival for which the mailbox has no place, or after 2^62 changes, also in a trial.
 /// - `Damaged` comes exactly where what is kept is damaged, `OtherMe` exactly where it is the mailbox of another address, and
 ///   `Short` exactly where an input ends before the place up to which it was followed.
 /// - `NoChat` comes exactly where KEY is the text of no key in the list, and `NoApp` exactly where ID is the id of no
@@ -215,18 +216,18 @@ pub fn run<M: Source, S: Source, H: Shelf, C: Clock, K: Sink, L: Ledger>(
 ) -> Status
     // When each status comes.
     ensures usage { ComesWhere Status.Usage (IsNoRequest words.now) result }
-    ensures unbuilt { ComesWhere Status.Unbuilt (early (request words.now) ≡ Some refusal.Unbuilt) result }
+    ensures bare { follows (request words.now) ≡ false → EndsBare result }
     ensures write { result ≡ Status.Write → Rose (K.faults out.old) (K.faults out.new) }
     // Where the bytes of the inputs are known, and the moment of a clock that is asked, any status but Read, Endless and
     // Memory is that of the outcome.
-    ensures status { (bytes : Bytes) (lines : Option Bytes) (places : Places) (next : ℕ) → M.left mbox.old ≡ Some bytes → LentTells S.left steps_file.entry lines
-        → H.seen shelf.old ≡ Some places → ClockGives (needs_clock (request words.now) (is_some steps_file.entry)) (C.next clock.old) next
-        → Agrees (outcome words.now bytes lines places next) result }
+    ensures status { (found : Found) → Finds (request words.now) (is_some steps_file.entry) (M.left mbox.old) (LentTells S.left steps_file.entry) (H.seen shelf.old)
+        (C.next clock.old) found
+        → Agrees (outcome words.now found) result }
 
     // What is put.
-    ensures answer { (bytes : Bytes) (lines : Option Bytes) (places : Places) (next : ℕ) → M.left mbox.old ≡ Some bytes → LentTells S.left steps_file.entry lines
-        → H.seen shelf.old ≡ Some places → ClockGives (needs_clock (request words.now) (is_some steps_file.entry)) (C.next clock.old) next
-        → PutsAnswer (K.held out.old) (K.held out.new) (outcome words.now bytes lines places next) result }
+    ensures answer { (found : Found) → Finds (request words.now) (is_some steps_file.entry) (M.left mbox.old) (LentTells S.left steps_file.entry) (H.seen shelf.old)
+        (C.next clock.old) found
+        → PutsAnswer (K.held out.old) (K.held out.new) (outcome words.now found) result }
     ensures line { PutsLine (K.held out.old) (K.held out.new) (CauseOf (Rose (M.faults mbox.old) (M.faults mbox.new))
         (IfLentAnd steps_file.entry steps_file.exit (λ before after. Rose (S.faults before) (S.faults after)))
         (Rose (H.faults shelf.old) (H.faults shelf.new)) (TakesAll (M.left mbox.old) (M.left mbox.new) mbox_budget)
@@ -235,29 +236,34 @@ pub fn run<M: Source, S: Source, H: Shelf, C: Clock, K: Sink, L: Ledger>(
 
     // What is kept: at any moment a crash leaves the state of a crash outcome at the start, or that after the first changes, of
     // whole commits of 256 or all; and once the last commit is made, or a change or an input refuses to go on, what is kept then.
-    ensures crash { (bytes : Bytes) (lines : Option Bytes) (places : Places) (next : ℕ) → M.left mbox.old ≡ Some bytes → LentTells S.left steps_file.entry lines
-        → H.seen shelf.old ≡ Some places → ClockGives (needs_clock (request words.now) (is_some steps_file.entry)) (C.next clock.old) next
-        → LeavesOnly H.moment H.left_since shelf.old shelf.new (MayStandIf (given_in (request words.now) bytes lines places next) (H.may_leave shelf.old)) }
-    ensures lasting { (bytes : Bytes) (lines : Option Bytes) (places : Places) (next : ℕ) → M.left mbox.old ≡ Some bytes → LentTells S.left steps_file.entry lines
-        → H.seen shelf.old ≡ Some places → ClockGives (needs_clock (request words.now) (is_some steps_file.entry)) (C.next clock.old) next
-        → LastIf (given_in (request words.now) bytes lines places next) result (H.may_leave shelf.new) }
+    ensures crash { (found : Found) → Finds (request words.now) (is_some steps_file.entry) (M.left mbox.old) (LentTells S.left steps_file.entry) (H.seen shelf.old)
+        (C.next clock.old) found
+        → LeavesOnly H.moment H.left_since shelf.old shelf.new (MayStandIf (given_in (request words.now) found) (H.may_leave shelf.old)) }
+    ensures lasting { (found : Found) → Finds (request words.now) (is_some steps_file.entry) (M.left mbox.old) (LentTells S.left steps_file.entry) (H.seen shelf.old)
+        (C.next clock.old) found
+        → LastIf (given_in (request words.now) found) result (H.may_leave shelf.new) }
 
     // Where nothing fails and the inputs end, the answer comes, unless memory runs out.
-    ensures complete { (bytes text : Bytes) (lines : Option Bytes) (places : Places) (next : ℕ) → M.left mbox.old ≡ Some bytes
-        → LentTells S.left steps_file.entry lines → H.seen shelf.old ≡ Some places
-        → ClockGives (needs_clock (request words.now) (is_some steps_file.entry)) (C.next clock.old) next
-        → outcome words.now bytes lines places next ≡ Ok text
-        → length bytes < mbox_budget → IfSome lines (λ lines. length lines < steps_budget)
+    ensures complete { (found : Found) (text : Bytes) → Finds (request words.now) (is_some steps_file.entry) (M.left mbox.old) (LentTells S.left steps_file.entry) (H.seen shelf.old)
+        (C.next clock.old) found
+        → outcome words.now found ≡ Ok text
+        → length found.mbox < mbox_budget → IfSome found.steps (λ steps. length steps < steps_budget)
         → ¬ Rose (M.faults mbox.old) (M.faults mbox.new) → ¬ Rose (K.faults out.old) (K.faults out.new) → ¬ Rose (H.faults shelf.old) (H.faults shelf.new)
         → ¬ IfLentAnd steps_file.entry steps_file.exit (λ before after. Rose (S.faults before) (S.faults after))
         → (result ≡ Status.Ok × Appends (K.held out.old) (K.held out.new) text) ⊎ (result ≡ Status.Memory) }
 
+    // What is counted: by opening and by the commits no more kept cards are read than there are, and no more bytes are written
+    // than an image where a checkpoint falls due, and else a group; and then the answer reads what its question may.
+    ensures cost { (found : Found) → Finds (request words.now) (is_some steps_file.entry) (M.left mbox.old) (LentTells S.left steps_file.entry) (H.seen shelf.old)
+        (C.next clock.old) found
+        → RoseWithin (counts steps.old (H.written shelf.old)) (cost_of (request words.now) found) (counts steps.new (H.written shelf.new)) }
+
     // What is asked of the devices.
-    ensures untouched { IfSome (early (request words.now)) (λ why. mbox.new ≡ mbox.old) }
-    ensures steps_untouched { IfSome (early (request words.now)) (λ why. IfLent steps_file.entry steps_file.exit (λ before after. after ≡ before)) }
+    ensures untouched { follows (request words.now) ≡ false → mbox.new ≡ mbox.old }
+    ensures steps_untouched { follows (request words.now) ≡ false → IfLent steps_file.entry steps_file.exit (λ before after. after ≡ before) }
     ensures mbox_took { TakesUpTo (M.left mbox.old) (M.left mbox.new) mbox_budget }
     ensures steps_took { IfLent steps_file.entry steps_file.exit (λ before after. TakesUpTo (S.left before) (S.left after) steps_budget) }
-    ensures shelf_untouched { IfSome (early (request words.now)) (λ why. shelf.new ≡ shelf.old) }
+    ensures shelf_untouched { follows (request words.now) ≡ false → shelf.new ≡ shelf.old }
     ensures clock { AsksClock C.asked (needs_clock (request words.now) (is_some steps_file.entry)) clock.old clock.new (result ≡ Status.Memory) }
 {
     match steps_file {

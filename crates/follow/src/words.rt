@@ -14,14 +14,8 @@ use std::alloc::Global;
 /// What a run is to print.
 #[derive(Drop)]
 pub enum Command {
-    /// The list of all chats.
-    List,
-    /// All contacts.
-    Contacts,
-    /// The page of the chat with this key.
-    Chat(Text),
-    /// The updates of the app in the mail with this id, or only those that have an info.
-    Updates { id: Text, info: bool },
+    /// The answer to a question on the mailbox that is followed.
+    Ask(Question),
     /// The summary of the trial mailbox with this number.
     Trial(u64),
 }
@@ -173,7 +167,6 @@ impl<'a> Words<'a> {
 
 impl Command {
     ghost use Rattle.std.specs.Prelude.{◌≡◌, IfOk};
-    ghost use Rattle.follow.specs.Questions.{question_of};
     ghost use Rattle.follow.specs.Words.{of_name, of_value, of_info, command_of};
 
     /// The command that is its name alone.
@@ -181,8 +174,8 @@ impl Command {
         ensures { result ≡ of_name name.now }
     {
         match name.as_str() {
-            "list" => Some(Command::List),
-            "contacts" => Some(Command::Contacts),
+            "list" => Some(Command::Ask(Question::List)),
+            "contacts" => Some(Command::Ask(Question::Contacts)),
             _ => None,
         }
     }
@@ -192,11 +185,11 @@ impl Command {
         ensures { IfOk result (λ read. read ≡ of_value name.now value.now) }
     {
         Ok(match name.as_str() {
-            "chat" => Some(Command::Chat(value.copy()?)),
-            "updates" => Some(Command::Updates {
+            "chat" => Some(Command::Ask(Question::Chat(value.copy()?))),
+            "updates" => Some(Command::Ask(Question::Updates {
                 id: value.copy()?,
                 info: false,
-            }),
+            })),
             "trial" => trial_of(value).map(Command::Trial),
             _ => None,
         })
@@ -216,10 +209,10 @@ impl Command {
         if !is_value(id.bytes()) {
             return Ok(None);
         }
-        Ok(Some(Command::Updates {
+        Ok(Some(Command::Ask(Question::Updates {
             id: id.copy()?,
             info: true,
-        }))
+        })))
     }
 
     /// The command that the words are. Takes memory; `Err` only when it runs out.
@@ -231,19 +224,6 @@ impl Command {
             [name, value] if is_value(value.bytes()) => Command::of_value(name, value),
             [name, a, b] if name.as_str() == "updates" => Command::of_info(a, b),
             _ => Ok(None),
-        }
-    }
-
-    /// What this command asks of a mailbox: nothing yet where it is a trial.
-    pub fn question(self) -> Option<Question>
-        ensures { result ≡ question_of self }
-    {
-        match self {
-            Command::List => Some(Question::List),
-            Command::Contacts => Some(Question::Contacts),
-            Command::Chat(key) => Some(Question::Chat(key)),
-            Command::Updates { id, info } => Some(Question::Updates { id, info }),
-            Command::Trial(_) => None,
         }
     }
 }

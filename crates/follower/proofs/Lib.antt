@@ -1,6 +1,7 @@
 -- Lemmas of this crate, and rows that compute.
 pub mod Turning
 pub mod Going
+pub mod Spending
 pub mod Committing
 pub mod Rounds
 pub mod NextChange

@@ -1,8 +1,7 @@
 -- The change that comes first, and those that come after it, over files as they were and as they have grown.
-use Rattle.std.proofs.Common.{◌≡◌, ◌⊎◌, inl, inr, ℕ, ◌+◌, ◌-◌, ◌≤◌, Bool, true, false, List, [], ◌∷◌, ◌++◌, length, drop, Option, Some, None, Result, Ok, Err, if◌then◌else◌, nat_lt, refl, sym, ap, subst, ◌∙◌, length-append, arith}
+use Rattle.std.proofs.Common.{◌≡◌, ◌⊎◌, inl, inr, ℕ, ◌+◌, ◌-◌, ◌≤◌, List, [], ◌∷◌, ◌++◌, length, drop, Option, Some, None, refl, sym, ap, subst, ◌∙◌, length-append, arith}
 use Rattle.std.proofs.lemmas.List.{append-nil, drop-append-le, drop-drop, length-drop}
 use Rattle.kit.specs.Lines.{content}
-use Rattle.mboxrd.specs.Answers.{max_mail_len}
 use Rattle.mboxrd.specs.Mails.{Mail, mails_from}
 use Rattle.mboxrd.proofs.GoingOn.{mails_go_on}
 use Rattle.mboxrd.proofs.Grown.{closed_from, mails_grow}
@@ -11,19 +10,15 @@ use Rattle.steps_file.specs.Steps.{step_of}
 use Rattle.steps_file.specs.declared.step.Step.{Step}
 use Rattle.steps_file.specs.declared.step.Step.TheVariants as step
 use Rattle.steps_file.proofs.GrownLines.{lines_go_on, lines_grow}
-use Rattle.card_type.specs.declared.card.Card.{Card}
-use Rattle.chat_card.specs.Cards.{card_of}
-use Rattle.chat_card.specs.declared.fault.CardFault.{CardFault}
 use Rattle.mailbox_model.specs.declared.change.Change.{Change}
-use Rattle.mailbox_model.specs.declared.change.Change.TheVariants.{ArriveFault, Expunge, Seen, At}
-use Rattle.mailbox_model.specs.declared.change.Fault.TheVariants as is_fault
+use Rattle.mailbox_model.specs.declared.change.Change.TheVariants.{Expunge, Seen, At}
 use Rattle.mailbox_model.specs.Lists.{Bytes}
-use Rattle.mailbox_model.specs.Mailbox.{Mailbox, after}
+use Rattle.mailbox_model.specs.Mailbox.{after}
 use Rattle.state_image.specs.declared.position.Position.{Position}
 use Rattle.state_store.specs.States.{State}
-use Rattle.follower.specs.Arrivals.{arrival_of, arrival_with}
 use Rattle.follower.specs.Feed.{Fed, Feed, Ending, End, BadLine, after_fed, at_line, coming, counted, ends, fed_first, last_fed, line_fed, lines_fed, lines_left, mail_fed, mails_fed, mails_left, moment_fed}
 use Rattle.follower.specs.Resuming.{LiesWithin, MboxGrows, StepsGrow}
+use Rattle.follower.proofs.Turning.{arrives}
 
 -- what comes of the files from a state on
 abbrev pub ahead : Option ℕ → State → Bytes → Option Bytes → Feed
@@ -87,15 +82,6 @@ added_to None steps more grown = grown
 added_to (Some moment) steps more same = ([], same ∙ sym (append-nil steps))
 
 -- ---- uids
-
--- an arrival takes the next uid
-arrives : (m : Mailbox) (uid : ℕ) (mail : Mail) → (after m (arrival_of uid mail)).next_uid ≡ m.next_uid + 1
-arrives m uid mail = by (nat_lt max_mail_len (length mail.bytes)) (card_of uid mail.bytes)
-  where
-    by : (long : Bool) (read : Result Card CardFault) → (after m (if long then ArriveFault is_fault.TooLong else arrival_with read)).next_uid ≡ m.next_uid + 1
-    by true read = refl
-    by false (Ok card) = refl
-    by false (Err why) = refl
 
 -- ---- the change that comes first
 

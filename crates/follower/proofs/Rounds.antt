@@ -1,6 +1,7 @@
 -- Rounds of a run on its way: what a turn and a commit make of it, over what its devices tell.
-use Rattle.std.proofs.Common.{◌≡◌, ◌⊎◌, inl, inr, ℕ, ◌<◌, true, false, length, Option, Some, None, Result, Ok, Err, IfErr, IfOk, OnOk, refl, sym, ap, subst, ◌∙◌}
+use Rattle.std.proofs.Common.{◌≡◌, ◌⊎◌, inl, inr, ℕ, zero, suc, ◌+◌, ◌<◌, ◌≤◌, arith, true, false, length, Option, Some, None, Result, Ok, Err, IfErr, IfOk, OnOk, refl, sym, ap, subst, ◌∙◌}
 use Rattle.std.specs.Prelude.{IsErrOf}
+use Rattle.outside.specs.Crash.{RisesUpTo}
 use Rattle.outside.specs.Places.{Places}
 use Rattle.outside.specs.Moments.{IsKnown, KnownThen, LeavesOnly, Reached as Left, WhereKnown}
 use Rattle.outside.proofs.Moments.{weaker, started}
@@ -9,22 +10,23 @@ use Rattle.mailbox_model.specs.declared.change.Change.TheVariants.{At}
 use Rattle.source_buffer.specs.Known.{IfKnown}
 use Rattle.state_store.specs.States.{State}
 use Rattle.state_store.specs.Stands.{stands}
-use Rattle.state_store.specs.Commits.{OldOrNew}
+use Rattle.state_store.specs.Commits.{OldOrNew, commit_reads, commit_writes, fill_of, fill_with}
 use Rattle.state_store.specs.Stored.{IsStored}
 use Rattle.state_store.specs.declared.store.Store.{Store}
 use Rattle.state_store.proofs.Appending.{is_settled}
 use Rattle.keeper.specs.Keeping.{Keeping, is_refused}
-use Rattle.keeper.specs.Pending.{PendingChanges, none_pending}
+use Rattle.keeper.specs.Pending.{none_pending, with_change}
 use Rattle.follower.specs.declared.fault.RunFault.{RunFault}
 use Rattle.follower.specs.declared.fault.RunFault.TheVariants as fault
 use Rattle.follower.specs.declared.follower.Turned.{Turned}
 use Rattle.follower.specs.declared.follower.Turned.TheVariants as turned
 use Rattle.follower.specs.Feed.{Fed, Feed, End, after_fed, ends, fed_first, last_fed, moment_fed}
-use Rattle.follower.specs.Following.{Adds, Following, TurnAdds, TurnGoes, to_come}
+use Rattle.follower.specs.Following.{Following, TurnAdds, TurnGoes, to_come}
 use Rattle.follower.specs.Going.{RefusesFirst, StopsAt}
 use Rattle.follower.specs.Reached.{BadStep, Full, count_made, reached}
-use Rattle.follower.specs.Committing.{Ends, HaltsAt, IsWhole, LastGoes, LastToCome, LinesToCome, MailsToCome, NothingToCome, OnWay, Prefix, RoundGoes, Way}
-use Rattle.follower.proofs.Committing.{ends_all, halts, prefix_commit, prefix_kept, way_committed, way_on, whole_of_256, whole_of_all}
+use Rattle.follower.specs.Committing.{CommitGoes, EndGoes, HaltsAt, IsWhole, LastGoes, LastToCome, LinesToCome, MailsToCome, NothingToCome, OnWay, Outset, Prefix, RoundGoes, SpendsWithin, Stops, Way}
+use Rattle.follower.specs.Spending.{Counts}
+use Rattle.follower.proofs.Committing.{ends_all, full_rose, full_spends, halts, last_spends, prefix_commit, prefix_kept, way_committed, way_on, way_spends, whole_of_256, whole_of_all}
 
 -- ---- what a turn says, where the bytes are known
 
@@ -75,50 +77,55 @@ no_room s f rest full = (rw full refl, rw full refl)
 first_refused : (s : State) (feed : Feed) → RefusesFirst s feed → ((reached s feed).stop ≡ Some Full) × (count_made s feed.changes ≡ 0)
 first_refused s feed refuses = subst (λ (f : Feed). ((reached s f).stop ≡ Some Full) × (count_made s f.changes ≡ 0)) (sym refuses.first) (no_room s refuses.fed refuses.others refuses.refused)
 
-module _ (start : State) (feed : Feed) (outcomes : Places → Type 0) (seen : Option Places) where
-  pub stops_at : (others : Feed) (k : Keeping) → IsKnown seen (Way start feed others k) → k.pending.count < 256 → WhereKnown seen (IsStored k.store outcomes)
-      → (why : RunFault) → StopsAt why k.state others → HaltsAt why start feed outcomes
-  stops_at others k known few stored fault.Full stops =
+module _ (start : Outset) (feed : Feed) (now : Counts) (outcomes : Places → Type 0) (seen : Option Places) where
+  halts_at : (others : Feed) (k : Keeping) → IsKnown seen (Way start feed others k now) → k.pending.count < 256 → WhereKnown seen (IsStored k.store outcomes)
+      → (why : RunFault) → StopsAt why k.state others → HaltsAt why start.state feed outcomes
+  halts_at others k known few stored fault.Full stops =
       let refused = first_refused k.state others stops in
-      halts start feed others k known.places known.holds Full outcomes (stored known.places known.is) few refused.0 refused.1
-  stops_at others k known few stored (fault.Steps number) stops =
-      halts start feed others k known.places known.holds (BadStep number) outcomes (stored known.places known.is) few
+      halts start feed others k now known.places known.holds Full outcomes (stored known.places known.is) few refused.0 refused.1
+  halts_at others k known few stored (fault.Steps number) stops =
+      halts start feed others k now known.places known.holds (BadStep number) outcomes (stored known.places known.is) few
       (ap (λ (f : Feed). (reached k.state f).stop) stops) (ap (λ (f : Feed). count_made k.state f.changes) stops)
-  stops_at others k known few stored (fault.Read input) stops = tt
-  stops_at others k known few stored (fault.Endless input) stops = tt
-  stops_at others k known few stored (fault.Short input) stops = tt
-  stops_at others k known few stored fault.Disk stops = tt
-  stops_at others k known few stored (fault.Damaged place at) stops = tt
-  stops_at others k known few stored (fault.OtherMe other) stops = tt
-  stops_at others k known few stored fault.Memory stops = tt
+  halts_at others k known few stored (fault.Read input) stops = tt
+  halts_at others k known few stored (fault.Endless input) stops = tt
+  halts_at others k known few stored (fault.Short input) stops = tt
+  halts_at others k known few stored fault.Disk stops = tt
+  halts_at others k known few stored (fault.Damaged place at) stops = tt
+  halts_at others k known few stored (fault.OtherMe other) stops = tt
+  halts_at others k known few stored fault.Memory stops = tt
+
+  pub stops_at : (others : Feed) (k : Keeping) → IsKnown seen (Way start feed others k now) → k.pending.count < 256 → WhereKnown seen (IsStored k.store outcomes)
+      → (why : RunFault) → StopsAt why k.state others → Stops why start feed now outcomes
+  stops_at others k known few stored why stops =
+      record { halts = halts_at others k known few stored why stops; spends = way_spends start feed others k now known.places known.holds }
 
   -- of the turn after a commit that may have been due
-  pub round_goes : (last : Option ℕ) (IsToCome : Feed → Type 0) (old new : Following) (others later : Feed) (r : Result Turned RunFault) → IsKnown seen (Way start feed others old.keeper)
-      → IsToCome later → TurnGoes last r old others new later → IfOk r (TurnAdds old.keeper new.keeper) → old.keeper.pending.count < 256 → WhereKnown seen (IsStored old.keeper.store outcomes)
-      → RoundGoes last r start feed IsToCome new.keeper seen outcomes
-  round_goes last IsToCome old new others later (Ok turned.Applied) known comes go adds few stored = record {
+  pub round_goes : (last : Option ℕ) (IsToCome : Feed → Type 0) (old new : Following) (others later : Feed) (r : Result Turned RunFault) → IsKnown seen (Way start feed others old.keeper now)
+      → IsToCome later → TurnGoes last r old others new later → IfOk r (TurnAdds old.keeper new.keeper) → new.keeper.store ≡ old.keeper.store → old.keeper.pending.count < 256
+      → WhereKnown seen (IsStored old.keeper.store outcomes) → RoundGoes last r start feed IsToCome new.keeper now seen outcomes
+  round_goes last IsToCome old new others later (Ok turned.Applied) known comes go adds store few stored = record {
     others = later;
     to_come = comes;
-    known = record { places = known.places; is = known.is; holds = way_on start feed others old.keeper known.places known.holds new.keeper later go adds };
+    known = record { places = known.places; is = known.is; holds = way_on start feed others old.keeper now known.places known.holds new.keeper later go store };
   }
-  round_goes last IsToCome old new others later (Ok turned.End) known comes go adds few stored = record {
+  round_goes last IsToCome old new others later (Ok turned.End) known comes go adds store few stored = record {
     others = others;
     to_come = go.0 ∙ ap (λ (s : State). last_fed last s.position) (sym go.1);
-    known = subst (λ (k : Keeping). IsKnown seen (Way start feed others k)) (sym adds) known;
+    known = subst (λ (k : Keeping). IsKnown seen (Way start feed others k now)) (sym adds) known;
   }
-  round_goes last IsToCome old new others later (Err why) known comes go adds few stored = stops_at others old.keeper known few stored why go
+  round_goes last IsToCome old new others later (Err why) known comes go adds store few stored = stops_at others old.keeper known few stored why go
 
-  pub free_halt : (why : RunFault) → (why ≡ fault.Disk) ⊎ (why ≡ fault.Memory) → HaltsAt why start feed outcomes
-  free_halt why (inl disk) = subst (λ (e : RunFault). HaltsAt e start feed outcomes) (sym disk) tt
-  free_halt why (inr memory) = subst (λ (e : RunFault). HaltsAt e start feed outcomes) (sym memory) tt
+  pub free_stop : (why : RunFault) → (why ≡ fault.Disk) ⊎ (why ≡ fault.Memory) → SpendsWithin start feed now → Stops why start feed now outcomes
+  free_stop why (inl disk) spends = subst (λ (e : RunFault). Stops e start feed now outcomes) (sym disk) (record { halts = tt; spends = spends })
+  free_stop why (inr memory) spends = subst (λ (e : RunFault). Stops e start feed now outcomes) (sym memory) (record { halts = tt; spends = spends })
 
   -- all rounds
-  pub applied : (last : Option ℕ) (IsToCome : Feed → Type 0) (k : Keeping) (t : Turned) → t ≡ turned.Applied → RoundGoes last (Ok t) start feed IsToCome k seen outcomes → OnWay start feed IsToCome k seen
-  applied last IsToCome k t is go = subst (λ (t : Turned). RoundGoes last (Ok t) start feed IsToCome k seen outcomes) is go
+  pub applied : (last : Option ℕ) (IsToCome : Feed → Type 0) (k : Keeping) (t : Turned) → t ≡ turned.Applied → RoundGoes last (Ok t) start feed IsToCome k now seen outcomes → OnWay start feed IsToCome k now seen
+  applied last IsToCome k t is go = subst (λ (t : Turned). RoundGoes last (Ok t) start feed IsToCome k now seen outcomes) is go
 
-  pub ended : (last : Option ℕ) (IsToCome : Feed → Type 0) (k : Keeping) (t : Turned) → t ≡ turned.End → RoundGoes last (Ok t) start feed IsToCome k seen outcomes
-      → OnWay start feed (LastToCome last k) k seen
-  ended last IsToCome k t is go = subst (λ (t : Turned). RoundGoes last (Ok t) start feed IsToCome k seen outcomes) is go
+  pub ended : (last : Option ℕ) (IsToCome : Feed → Type 0) (k : Keeping) (t : Turned) → t ≡ turned.End → RoundGoes last (Ok t) start feed IsToCome k now seen outcomes
+      → OnWay start feed (LastToCome last k) k now seen
+  ended last IsToCome k t is go = subst (λ (t : Turned). RoundGoes last (Ok t) start feed IsToCome k now seen outcomes) is go
 
 -- ---- what holds at Ok
 
@@ -134,72 +141,90 @@ still_stored (Err why) seen outcomes old new same stored = tt
 -- ---- commits
 
 module _ {D : Type 0} (moment : D → ℕ) (left_since : D → ℕ → Places → Type 0) (seen : D → Option Places) (may_leave : D → Places → Type 0)
-    (start : State) (feed others : Feed) (k : Keeping) where
+    (start : Outset) (feed others : Feed) (k : Keeping) (now : Counts) where
   -- a shelf that is not called
-  pub nothing_leaves : (shelf : D) → ((c : Places) → left_since shelf (moment shelf) c → may_leave shelf c) → IsKnown (seen shelf) (Way start feed others k)
-      → WhereKnown (seen shelf) (IsStored k.store (may_leave shelf)) → LeavesOnly moment left_since shelf shelf (Prefix start feed)
+  pub nothing_leaves : (shelf : D) → ((c : Places) → left_since shelf (moment shelf) c → may_leave shelf c) → IsKnown (seen shelf) (Way start feed others k now)
+      → WhereKnown (seen shelf) (IsStored k.store (may_leave shelf)) → LeavesOnly moment left_since shelf shelf (Prefix start.state feed)
   nothing_leaves shelf only_now known stored =
-      started moment left_since shelf (Prefix start feed) (λ c left. prefix_kept start feed others k known.places known.holds c
-      (ap (stands start.mailbox.me) (is_settled k.store (may_leave shelf) known.places (stored known.places known.is) c (only_now c left))))
+      started moment left_since shelf (Prefix start.state feed) (λ c left. prefix_kept start feed others k now known.places known.holds c
+      (ap (stands start.state.mailbox.me) (is_settled k.store (may_leave shelf) known.places (stored known.places known.is) c (only_now c left))))
 
-  module _ (old new : D) (known : IsKnown (seen old) (Way start feed others k)) where
+  module _ (old new : D) (known : IsKnown (seen old) (Way start feed others k now)) where
     commit_leaves : IsWhole (length known.holds.leads.done) feed → WhereKnown (seen old) (IsStored k.store (may_leave old))
         → WhereKnown (seen old) (λ _. LeavesOnly moment left_since old new (Left (may_leave old) (OldOrNew k.state.mailbox.me k.state)))
-        → LeavesOnly moment left_since old new (Prefix start feed)
-    commit_leaves whole stored any = weaker moment left_since old new _ (Prefix start feed) (any known.places known.is)
-        (prefix_commit start feed others k known.places known.holds (may_leave old) (stored known.places known.is) whole)
+        → LeavesOnly moment left_since old new (Prefix start.state feed)
+    commit_leaves whole stored any = weaker moment left_since old new _ (Prefix start.state feed) (any known.places known.is)
+        (prefix_commit start feed others k now known.places known.holds (may_leave old) (stored known.places known.is) whole)
 
     -- of 256 changes
     pub full_leaves : k.pending.count ≡ 256 → WhereKnown (seen old) (IsStored k.store (may_leave old))
         → WhereKnown (seen old) (λ _. LeavesOnly moment left_since old new (Left (may_leave old) (OldOrNew k.state.mailbox.me k.state)))
-        → LeavesOnly moment left_since old new (Prefix start feed)
-    full_leaves full = commit_leaves (whole_of_256 start feed others k known.places known.holds full)
-
-    pub full_way : (after : Keeping) → k.pending.count ≡ 256 → KnownThen (seen old) (seen new) (λ _ places. stands k.state.mailbox.me places ≡ Ok k.state)
-        → after.state ≡ k.state → after.pending ≡ none_pending → IsKnown (seen new) (Way start feed others after)
-    full_way after full lasting state none =
-        let now = lasting.forth known.places known.is in record {
-          places = now.places;
-          is = now.is;
-          holds = way_committed start feed others k known.places known.holds after now.places full now.holds state (ap (λ (p : PendingChanges). p.count) none);
-        }
+        → LeavesOnly moment left_since old new (Prefix start.state feed)
+    full_leaves full = commit_leaves (whole_of_256 start feed others k now known.places known.holds full)
 
     -- of all changes
     pub all_leaves : others ≡ ends End → WhereKnown (seen old) (IsStored k.store (may_leave old))
         → WhereKnown (seen old) (λ _. LeavesOnly moment left_since old new (Left (may_leave old) (OldOrNew k.state.mailbox.me k.state)))
-        → LeavesOnly moment left_since old new (Prefix start feed)
-    all_leaves last = commit_leaves (whole_of_all start feed others k known.places known.holds last)
+        → LeavesOnly moment left_since old new (Prefix start.state feed)
+    all_leaves last = commit_leaves (whole_of_all start feed others k now known.places known.holds last)
 
-    pub all_end : (after : Keeping) → others ≡ ends End → KnownThen (seen old) (seen new) (λ _ places. stands k.state.mailbox.me places ≡ Ok k.state)
-        → after.state ≡ k.state → WhereKnown (seen new) (IsStored after.store (may_leave new)) → Ends start feed after (may_leave new)
-    all_end after last lasting state stored =
-        let now = lasting.forth known.places known.is in
-        ends_all start feed others k known.places known.holds after now.places (may_leave new) last (stored now.places now.is) now.holds state
+    -- what the commit reads and writes
+    module _ (later : Counts) (reads : later.reads ≤ now.reads + commit_reads (fill_of k.store) (length k.pending.bytes) k.state)
+        (writes : RisesUpTo (commit_writes (fill_of k.store) (length k.pending.bytes) k.state) now.written later.written) where
+      pub full_goes : (r : Result Unit RunFault) (after : Keeping) → k.pending.count ≡ 256 → OnOk r (KnownThen (seen old) (seen new) (λ _ places. stands k.state.mailbox.me places ≡ Ok k.state))
+          → after.state ≡ k.state → OnOk r (after.pending ≡ none_pending) → (1 ≤ k.pending.count → OnOk r (fill_of after.store ≡ fill_with (fill_of k.store) (39 + length k.pending.bytes)))
+          → CommitGoes r start feed others after later (seen new)
+      full_goes (Ok t) after full lasting state none fill =
+          let after_it = lasting.forth known.places known.is in record {
+            places = after_it.places;
+            is = after_it.is;
+            holds = way_committed start feed others k now known.places known.holds after later after_it.places full after_it.holds state none (fill (omega (arith, full)))
+                (full_rose start feed others k now known.places known.holds full later reads writes);
+          }
+      full_goes (Err why) after full lasting state none fill =
+          full_spends start feed others k now known.places known.holds full later (full_rose start feed others k now known.places known.holds full later reads writes)
+
+      all_spends : others ≡ ends End → k.pending.count ≤ 256 → (k.pending.count ≡ 0 → later ≡ now) → SpendsWithin start feed later
+      all_spends last few none = by k.pending.count refl
+        where
+          by : (n : ℕ) → k.pending.count ≡ n → SpendsWithin start feed later
+          by zero is = subst (SpendsWithin start feed) (sym (none is)) (way_spends start feed others k now known.places known.holds)
+          by (suc n) is = last_spends start feed others k now known.places known.holds last few (omega (arith, is)) later reads writes
+
+      pub end_goes : (r : Result Unit RunFault) (after : Keeping) → others ≡ ends End → k.pending.count ≤ 256 → (k.pending.count ≡ 0 → later ≡ now)
+          → OnOk r (KnownThen (seen old) (seen new) (λ _ places. stands k.state.mailbox.me places ≡ Ok k.state)) → after.state ≡ k.state → OnOk r (WhereKnown (seen new) (IsStored after.store (may_leave new)))
+          → IfErr r (λ why. (why ≡ fault.Disk) ⊎ (why ≡ fault.Memory)) → EndGoes r start feed after later (may_leave new)
+      end_goes (Ok t) after last few none lasting state stored possible =
+          let after_it = lasting.forth known.places known.is in
+          ends_all start feed others k now known.places known.holds after later after_it.places (may_leave new) last (stored after_it.places after_it.is) after_it.holds state (all_spends last few none)
+      end_goes (Err why) after last few none lasting state stored possible = free_stop start feed later (may_leave new) (seen new) why possible (all_spends last few none)
 
 -- ---- the moment that comes last
 
-module _ (start : State) (feed : Feed) (outcomes : Places → Type 0) (seen : Option Places) where
+module _ (start : Outset) (feed : Feed) (now : Counts) (outcomes : Places → Type 0) (seen : Option Places) where
   -- there is none
-  pub no_last : (last : Option ℕ) (k : Keeping) → last ≡ None → OnWay start feed (LastToCome last k) k seen → OnWay start feed NothingToCome k seen
+  pub no_last : (last : Option ℕ) (k : Keeping) → last ≡ None → OnWay start feed (LastToCome last k) k now seen → OnWay start feed NothingToCome k now seen
   no_last last k none on = record { others = on.others; to_come = on.to_come ∙ ap (λ (o : Option ℕ). last_fed o k.state.position) none; known = on.known }
 
   -- it is made, or the count has no room for it
-  pub last_goes : (moment : ℕ) (others : Feed) (k new : Keeping) (r : Result Unit RunFault) → others ≡ last_fed (Some moment) k.state.position → IsKnown seen (Way start feed others k)
+  pub last_goes : (moment : ℕ) (others : Feed) (k new : Keeping) (r : Result Unit RunFault) → others ≡ last_fed (Some moment) k.state.position → IsKnown seen (Way start feed others k now)
       → k.pending.count < 256 → WhereKnown seen (IsStored k.store outcomes) → OnOk r (is_refused k.state (At moment) ≡ false) → OnOk r (new.state ≡ after_fed k.state (moment_fed k.state.position moment))
-      → OnOk r (Adds k new) → (IsErrOf r fault.Full → is_refused k.state (At moment) ≡ true) → IfErr r (λ why. (why ≡ fault.Full) ⊎ (why ≡ fault.Memory)) → LastGoes r start feed new seen outcomes
-  last_goes moment others k new (Ok t) is known few stored room state adds full cause = record {
+      → OnOk r (new.pending ≡ with_change k.pending (At moment)) → new.store ≡ k.store → (IsErrOf r fault.Full → is_refused k.state (At moment) ≡ true) → IfErr r (λ why. (why ≡ fault.Full) ⊎ (why ≡ fault.Memory))
+      → LastGoes r start feed new now seen outcomes
+  last_goes moment others k new (Ok t) is known few stored room state pending store full cause = record {
     others = ends End;
     to_come = refl;
     known = record {
       places = known.places;
       is = known.is;
-      holds = way_on start feed others k known.places known.holds new (ends End) (record { fed = moment_fed k.state.position moment; first = is; room = room; state = state }) adds;
+      holds = way_on start feed others k now known.places known.holds new (ends End)
+          (record { fed = moment_fed k.state.position moment; first = is; room = room; state = state; pending = pending }) store;
     };
   }
-  last_goes moment others k new (Err why) is known few stored room state adds full cause = by cause
+  last_goes moment others k new (Err why) is known few stored room state pending store full cause = by cause
     where
-      by : (why ≡ fault.Full) ⊎ (why ≡ fault.Memory) → HaltsAt why start feed outcomes
-      by (inl is_full) = subst (λ (e : RunFault). HaltsAt e start feed outcomes) (sym is_full)
-          (stops_at start feed outcomes seen others k known few stored fault.Full
+      by : (why ≡ fault.Full) ⊎ (why ≡ fault.Memory) → Stops why start feed now outcomes
+      by (inl is_full) = subst (λ (e : RunFault). Stops e start feed now outcomes) (sym is_full)
+          (stops_at start feed now outcomes seen others k known few stored fault.Full
           (record { fed = moment_fed k.state.position moment; others = ends End; first = is; refused = full (ap Err is_full) }))
-      by (inr memory) = subst (λ (e : RunFault). HaltsAt e start feed outcomes) (sym memory) tt
+      by (inr memory) = free_stop start feed now outcomes seen why (inr memory) (way_spends start feed others k now known.places known.holds)

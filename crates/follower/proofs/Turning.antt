@@ -29,7 +29,8 @@ use Rattle.follower.specs.declared.fault.RunFault.TheVariants as fault
 use Rattle.state_image.specs.declared.position.Position.{Position}
 use Rattle.follower.specs.Arrivals.{arrival_of, arrival_taken, arrival_with}
 use Rattle.state_store.specs.States.{State}
-use Rattle.keeper.specs.Keeping.{is_refused}
+use Rattle.keeper.specs.Keeping.{Keeping, is_refused}
+use Rattle.keeper.specs.Pending.{with_change}
 use Rattle.keeper.specs.declared.fault.KeepFault.{KeepFault}
 use Rattle.keeper.specs.declared.fault.KeepFault.TheVariants as of_keeper
 use Rattle.follower.specs.Feed.{Fed, Feed, after_fed, at_line, at_mail, counted, fed_first, line_fed, lines_fed, mail_fed, mails_fed}
@@ -47,30 +48,36 @@ arrives m uid mail = by (nat_lt max_mail_len (length mail.bytes)) (card_of uid m
     by false (Ok card) = refl
     by false (Err why) = refl
 
+-- a change is made, and pending after the others
+abbrev IsAfter : Keeping → Change → Position → Keeping → Type 0
+IsAfter k change q n = (n.state ≡ after_fed k.state (record { change = change; position = q })) × (n.pending ≡ with_change k.pending change)
+
 -- the first of a feed is this change, and these are the others
-module _ (s t : State) (change : Change) (q : Position) (f : Fed) (is : ◌≡◌ {A = Change × Position} (change, q) (f.change, f.position)) where
-  pub makes_first : (rest others : Feed) → is_refused s change ≡ false → t ≡ after_fed s (record { change = change; position = q }) → rest ≡ others → MakesFirst s (fed_first f rest) t others
-  makes_first rest others room state same = record {
+module _ (k n : Keeping) (change : Change) (q : Position) (f : Fed) (is : ◌≡◌ {A = Change × Position} (change, q) (f.change, f.position)) where
+  pub makes_first : (rest others : Feed) → is_refused k.state change ≡ false → IsAfter k change q n → rest ≡ others → MakesFirst k (fed_first f rest) n others
+  makes_first rest others room after same = record {
     fed = f;
     first = ap (fed_first f) same;
-    room = ap (λ x. is_refused s x.0) (sym is) ∙ room;
-    state = state ∙ ap (λ x. after_fed s (record { change = x.0; position = x.1 })) is;
+    room = ap (λ x. is_refused k.state x.0) (sym is) ∙ room;
+    state = after.0 ∙ ap (λ x. after_fed k.state (record { change = x.0; position = x.1 })) is;
+    pending = after.1 ∙ ap (λ x. with_change k.pending x.0) is;
   }
 
-  pub refuses_first : (rest : Feed) → is_refused s change ≡ true → RefusesFirst s (fed_first f rest)
-  refuses_first rest refused = record { fed = f; others = rest; first = refl; refused = ap (λ x. is_refused s x.0) (sym is) ∙ refused }
+refuses_first : (s : State) (change : Change) (f : Fed) → change ≡ f.change → (rest : Feed) → is_refused s change ≡ true → RefusesFirst s (fed_first f rest)
+refuses_first s change f is rest refused = record { fed = f; others = rest; first = refl; refused = ap (is_refused s) (sym is) ∙ refused }
 
 -- ---- a mail
 
-mail_goes : (s t : State) (mail : Mail) (mails others : List Mail) (change : Change) (q : Position) → change ≡ arrival_of s.mailbox.next_uid mail → q ≡ at_mail (counted s.position) mail → others ≡ mails
-    → is_refused s change ≡ false → t ≡ after_fed s (record { change = change; position = q })
-    → MakesFirst s (mails_fed s.mailbox.next_uid s.position (mail ∷ mails)) t (mails_fed t.mailbox.next_uid t.position others)
-mail_goes s t mail mails others change q c p o room state =
+mail_goes : (k n : Keeping) (mail : Mail) (mails others : List Mail) (change : Change) (q : Position) → change ≡ arrival_of k.state.mailbox.next_uid mail → q ≡ at_mail (counted k.state.position) mail → others ≡ mails
+    → is_refused k.state change ≡ false → IsAfter k change q n
+    → MakesFirst k (mails_fed k.state.mailbox.next_uid k.state.position (mail ∷ mails)) n (mails_fed n.state.mailbox.next_uid n.state.position others)
+mail_goes k n mail mails others change q c p o room after =
+    let s = k.state in
     let uid = s.mailbox.next_uid in
     let f = mail_fed uid s.position mail in
     let is : ◌≡◌ {A = Change × Position} (change, q) (f.change, f.position) = λ i. (c i, p i) in
-    let here : t ≡ after_fed s f = state ∙ ap (λ (x : Change × Position). after_fed s (record { change = x.0; position = x.1 })) is in
-    makes_first s t change q f is (mails_fed (uid + 1) f.position mails) (mails_fed t.mailbox.next_uid t.position others) room state
+    let here : n.state ≡ after_fed s f = after.0 ∙ ap (λ (x : Change × Position). after_fed s (record { change = x.0; position = x.1 })) is in
+    makes_first k n change q f is (mails_fed (uid + 1) f.position mails) (mails_fed n.state.mailbox.next_uid n.state.position others) room after
     (ap (λ uid. mails_fed uid f.position mails) (sym (arrives s.mailbox uid mail))
     ∙ ap (λ ms. mails_fed (after_fed s f).mailbox.next_uid f.position ms) (sym o)
     ∙ ap (λ (x : State). mails_fed x.mailbox.next_uid x.position others) (sym here))
@@ -79,37 +86,43 @@ mail_full : (s : State) (mail : Mail) (mails : List Mail) (change : Change) → 
     → RefusesFirst s (mails_fed s.mailbox.next_uid s.position (mail ∷ mails))
 mail_full s mail mails change c full =
     let f = mail_fed s.mailbox.next_uid s.position mail in
-    refuses_first s s change f.position f (λ i. (c i, f.position)) (mails_fed (s.mailbox.next_uid + 1) f.position mails) full
+    refuses_first s change f c (mails_fed (s.mailbox.next_uid + 1) f.position mails) full
 
 -- ---- a line
 
 abbrev later : Option ℕ → List (List ℕ) → ℕ → Position → List Mail → Feed
 later last lines = λ uid p mails. lines_fed last uid p mails lines
 
-module _ (last : Option ℕ) (s t : State) (raw : List ℕ) (lines next : List (List ℕ)) (mails others : List Mail) (change : Change) (q : Position)
-    (n : next ≡ lines) (room : is_refused s change ≡ false) (state : t ≡ after_fed s (record { change = change; position = q })) where
+module _ (last : Option ℕ) (k n : Keeping) (raw : List ℕ) (lines next : List (List ℕ)) (mails others : List Mail) (change : Change) (q : Position)
+    (same : next ≡ lines) (room : is_refused k.state change ≡ false) (after : IsAfter k change q n) where
+  abbrev s : State
+  s = k.state
+
+  abbrev t : State
+  t = n.state
+
   -- a change after which the next uid is this one
   step_made : (f : Fed) (left : List Mail) (uid : ℕ) → ◌≡◌ {A = Change × Position} (change, q) (f.change, f.position) → others ≡ left → (after_fed s f).mailbox.next_uid ≡ uid
-      → MakesFirst s (fed_first f (later last lines uid f.position left)) t (lines_fed last t.mailbox.next_uid t.position others next)
+      → MakesFirst k (fed_first f (later last lines uid f.position left)) n (lines_fed last t.mailbox.next_uid t.position others next)
   step_made f left uid is o u =
-      let here : t ≡ after_fed s f = state ∙ ap (λ (x : Change × Position). after_fed s (record { change = x.0; position = x.1 })) is in
-      makes_first s t change q f is (later last lines uid f.position left) (lines_fed last t.mailbox.next_uid t.position others next) room state
+      let here : t ≡ after_fed s f = after.0 ∙ ap (λ (x : Change × Position). after_fed s (record { change = x.0; position = x.1 })) is in
+      makes_first k n change q f is (later last lines uid f.position left) (lines_fed last t.mailbox.next_uid t.position others next) room after
       (ap (λ uid. later last lines uid f.position left) (sym u)
       ∙ ap (λ ms. later last lines (after_fed s f).mailbox.next_uid f.position ms) (sym o)
-      ∙ ap (λ ls. lines_fed last (after_fed s f).mailbox.next_uid f.position others ls) (sym n)
+      ∙ ap (λ ls. lines_fed last (after_fed s f).mailbox.next_uid f.position others ls) (sym same)
       ∙ ap (λ (x : State). lines_fed last x.mailbox.next_uid x.position others next) (sym here))
 
   step_goes : (st : Step) → Makes st s.mailbox.next_uid (counted (at_line s.position raw)) mails (change, q) others
-      → MakesFirst s (line_fed (Some st) s.mailbox.next_uid s.position raw mails (later last lines)) t (lines_fed last t.mailbox.next_uid t.position others next)
+      → MakesFirst k (line_fed (Some st) s.mailbox.next_uid s.position raw mails (later last lines)) n (lines_fed last t.mailbox.next_uid t.position others next)
   step_goes st m = by st mails m
     where
       by : (st : Step) (mails : List Mail) → Makes st s.mailbox.next_uid (counted (at_line s.position raw)) mails (change, q) others
-          → MakesFirst s (line_fed (Some st) s.mailbox.next_uid s.position raw mails (later last lines)) t (lines_fed last t.mailbox.next_uid t.position others next)
+          → MakesFirst k (line_fed (Some st) s.mailbox.next_uid s.position raw mails (later last lines)) n (lines_fed last t.mailbox.next_uid t.position others next)
       by step.Next [] m = absurd m
       by step.Next (mail ∷ mails) m = step_made (mail_fed s.mailbox.next_uid (at_line s.position raw) mail) mails (s.mailbox.next_uid + 1) m.0 m.1 (arrives s.mailbox s.mailbox.next_uid mail)
-      by (step.Expunge n) mails m = step_made (record { change = Expunge n; position = counted (at_line s.position raw) }) mails s.mailbox.next_uid m.0 m.1 refl
-      by (step.Seen n) mails m = step_made (record { change = Seen n; position = counted (at_line s.position raw) }) mails s.mailbox.next_uid m.0 m.1 refl
-      by (step.At n) mails m = step_made (record { change = At n; position = counted (at_line s.position raw) }) mails s.mailbox.next_uid m.0 m.1 refl
+      by (step.Expunge uid) mails m = step_made (record { change = Expunge uid; position = counted (at_line s.position raw) }) mails s.mailbox.next_uid m.0 m.1 refl
+      by (step.Seen uid) mails m = step_made (record { change = Seen uid; position = counted (at_line s.position raw) }) mails s.mailbox.next_uid m.0 m.1 refl
+      by (step.At moment) mails m = step_made (record { change = At moment; position = counted (at_line s.position raw) }) mails s.mailbox.next_uid m.0 m.1 refl
 
 step_full : (last : Option ℕ) (s : State) (raw : List ℕ) (lines : List (List ℕ)) (st : Step) (mails others : List Mail) (change : Change) (q : Position)
     → Makes st s.mailbox.next_uid (counted (at_line s.position raw)) mails (change, q) others → is_refused s change ≡ true
@@ -117,28 +130,28 @@ step_full : (last : Option ℕ) (s : State) (raw : List ℕ) (lines : List (List
 step_full last s raw lines step.Next [] others change q m full = absurd m
 step_full last s raw lines step.Next (mail ∷ mails) others change q m full =
     let f = mail_fed s.mailbox.next_uid (at_line s.position raw) mail in
-    refuses_first s s change q f m.0 (later last lines (s.mailbox.next_uid + 1) f.position mails) full
+    refuses_first s change f (ap (λ x. x.0) m.0) (later last lines (s.mailbox.next_uid + 1) f.position mails) full
 step_full last s raw lines (step.Expunge n) mails others change q m full =
     let p = counted (at_line s.position raw) in
-    refuses_first s s change q (record { change = Expunge n; position = p }) m.0 (later last lines s.mailbox.next_uid p mails) full
+    refuses_first s change (record { change = Expunge n; position = p }) (ap (λ x. x.0) m.0) (later last lines s.mailbox.next_uid p mails) full
 step_full last s raw lines (step.Seen n) mails others change q m full =
     let p = counted (at_line s.position raw) in
-    refuses_first s s change q (record { change = Seen n; position = p }) m.0 (later last lines s.mailbox.next_uid p mails) full
+    refuses_first s change (record { change = Seen n; position = p }) (ap (λ x. x.0) m.0) (later last lines s.mailbox.next_uid p mails) full
 step_full last s raw lines (step.At n) mails others change q m full =
     let p = counted (at_line s.position raw) in
-    refuses_first s s change q (record { change = At n; position = p }) m.0 (later last lines s.mailbox.next_uid p mails) full
+    refuses_first s change (record { change = At n; position = p }) (ap (λ x. x.0) m.0) (later last lines s.mailbox.next_uid p mails) full
 
 -- the lines, of which the first is what it is
 abbrev by_step : Option ℕ → State → List ℕ → List (List ℕ) → List Mail → Option Step → Feed
 by_step last s raw lines mails o = line_fed o s.mailbox.next_uid s.position raw mails (later last lines)
 
-line_goes : (last : Option ℕ) (s t : State) (raw : List ℕ) (lines next : List (List ℕ)) (st : Step) (mails others : List Mail) (change : Change) (p q : Position)
-    → step_of (content raw) ≡ Some st → next ≡ lines → p ≡ counted (at_line s.position raw) → Makes st s.mailbox.next_uid p mails (change, q) others
-    → is_refused s change ≡ false → t ≡ after_fed s (record { change = change; position = q })
-    → MakesFirst s (lines_fed last s.mailbox.next_uid s.position mails (raw ∷ lines)) t (lines_fed last t.mailbox.next_uid t.position others next)
-line_goes last s t raw lines next st mails others change p q is n place m room state =
-    subst (λ o. MakesFirst s (by_step last s raw lines mails o) t (lines_fed last t.mailbox.next_uid t.position others next)) (sym is)
-    (step_goes last s t raw lines next mails others change q n room state st (subst (λ p. Makes st s.mailbox.next_uid p mails (change, q) others) place m))
+line_goes : (last : Option ℕ) (k n : Keeping) (raw : List ℕ) (lines next : List (List ℕ)) (st : Step) (mails others : List Mail) (change : Change) (p q : Position)
+    → step_of (content raw) ≡ Some st → next ≡ lines → p ≡ counted (at_line k.state.position raw) → Makes st k.state.mailbox.next_uid p mails (change, q) others
+    → is_refused k.state change ≡ false → IsAfter k change q n
+    → MakesFirst k (lines_fed last k.state.mailbox.next_uid k.state.position mails (raw ∷ lines)) n (lines_fed last n.state.mailbox.next_uid n.state.position others next)
+line_goes last k n raw lines next st mails others change p q is same place m room after =
+    subst (λ o. MakesFirst k (by_step last k.state raw lines mails o) n (lines_fed last n.state.mailbox.next_uid n.state.position others next)) (sym is)
+    (step_goes last k n raw lines next mails others change q same room after st (subst (λ p. Makes st k.state.mailbox.next_uid p mails (change, q) others) place m))
 
 line_full : (last : Option ℕ) (s : State) (raw : List ℕ) (lines : List (List ℕ)) (st : Step) (mails others : List Mail) (change : Change) (p q : Position)
     → step_of (content raw) ≡ Some st → p ≡ counted (at_line s.position raw) → Makes st s.mailbox.next_uid p mails (change, q) others → is_refused s change ≡ true
@@ -219,25 +232,28 @@ next_makes l m old mid st p q o change next some known place = if_known l m _ _ 
 -- over what the calls of a turn say
 module _ (l m : Option (List ℕ)) (old mid : Following) (o : Option Change) (change : Change) (rest : mid ≡ record old { mbox = mid.mbox }) (some : o ≡ Some change)
     (next : IfKnown l m (λ before after. ArrivesNext old (mails_ahead old before) o mid (mails_ahead mid after))) where
+  same_keeper : mid.keeper ≡ old.keeper
+  same_keeper = ap (λ (f : Following). f.keeper) rest
+
   same_state : mid.keeper.state ≡ old.keeper.state
-  same_state = ap (λ (f : Following). f.keeper.state) rest
+  same_state = ap (λ (k : Keeping). k.state) same_keeper
 
   arrived : (P : List ℕ → List ℕ → Type 0) → ((before after : List ℕ) → ArrivesNext old (mails_ahead old before) (Some change) mid (mails_ahead mid after) → P before after) → IfKnown l m P
   arrived P f = if_known l m _ P (λ before after h. f before after (subst (λ o. ArrivesNext old (mails_ahead old before) o mid (mails_ahead mid after)) some h)) next
 
-  pub mail_turns : (new : Following) (q : Position) → is_refused mid.keeper.state change ≡ false → new.keeper.state ≡ after_fed mid.keeper.state (record { change = change; position = q })
+  pub mail_turns : (new : Following) (q : Position) → is_refused mid.keeper.state change ≡ false → IsAfter mid.keeper change q new.keeper
       → q ≡ record (counted mid.keeper.state.position) { mbox = mid.mbox.place } → new.mbox ≡ mid.mbox
-      → IfKnown l m (λ before after. MakesFirst old.keeper.state (to_come None old before None) new.keeper.state (to_come None new after None))
+      → IfKnown l m (λ before after. MakesFirst old.keeper (to_come None old before None) new.keeper (to_come None new after None))
   mail_turns new q room is place same = arrived _ (λ before after h.
-      subst (λ (r : Reading). MakesFirst old.keeper.state (to_come None old before None) new.keeper.state (mails_fed new.keeper.state.mailbox.next_uid new.keeper.state.position (mails_from (mbox_position r) (r.held ++ after)))) (sym same)
+      subst (λ (r : Reading). MakesFirst old.keeper (to_come None old before None) new.keeper (mails_fed new.keeper.state.mailbox.next_uid new.keeper.state.position (mails_from (mbox_position r) (r.held ++ after)))) (sym same)
       (by (mails_ahead old before) (mails_ahead mid after) h))
     where
       by : (mails others : List Mail) → ArrivesNext old mails (Some change) mid others
-          → MakesFirst old.keeper.state (mails_fed old.keeper.state.mailbox.next_uid old.keeper.state.position mails) new.keeper.state (mails_fed new.keeper.state.mailbox.next_uid new.keeper.state.position others)
+          → MakesFirst old.keeper (mails_fed old.keeper.state.mailbox.next_uid old.keeper.state.position mails) new.keeper (mails_fed new.keeper.state.mailbox.next_uid new.keeper.state.position others)
       by [] others h = absurd h
-      by (mail ∷ mails) others h = mail_goes old.keeper.state new.keeper.state mail mails others change q h.0
+      by (mail ∷ mails) others h = mail_goes old.keeper new.keeper mail mails others change q h.0
           (place ∙ ap (λ (s : State). record (counted s.position) { mbox = mid.mbox.place }) same_state ∙ ap (λ place. record (counted old.keeper.state.position) { mbox = place }) h.1) h.2
-          (ap (λ s. is_refused s change) (sym same_state) ∙ room) (is ∙ ap (λ s. after_fed s (record { change = change; position = q })) same_state)
+          (ap (λ s. is_refused s change) (sym same_state) ∙ room) (subst (λ (k : Keeping). IsAfter k change q new.keeper) same_keeper is)
 
   pub mail_stops : (why : RunFault) → (why ≡ fault.Full) ⊎ (why ≡ fault.Memory) → (why ≡ fault.Full → is_refused mid.keeper.state change ≡ true)
       → IfKnown l m (λ before after. StopsAt why old.keeper.state (to_come None old before None))
@@ -258,8 +274,11 @@ module _ (l m k n : Option (List ℕ)) (old here mid : Following) (a : TakenLine
   here_state : here.keeper.state ≡ old.keeper.state
   here_state = ap (λ (f : Following). f.keeper.state) lines
 
+  mid_keeper : mid.keeper ≡ old.keeper
+  mid_keeper = ap (λ (f : Following). f.keeper) rest ∙ ap (λ (f : Following). f.keeper) lines
+
   mid_state : mid.keeper.state ≡ old.keeper.state
-  mid_state = ap (λ (f : Following). f.keeper.state) rest ∙ here_state
+  mid_state = ap (λ (k : Keeping). k.state) mid_keeper
 
   -- what the step makes of the mails that the follower has ahead
   old_makes : (before after : List ℕ) → Makes st here.keeper.state.mailbox.next_uid p (mails_ahead here before) made (mails_ahead mid after)
@@ -277,25 +296,25 @@ module _ (l m k n : Option (List ℕ)) (old here mid : Following) (a : TakenLine
       if_known k n _ (R mails_before mails_after) (λ before after g. f mails_before mails_after before after (old_makes mails_before mails_after h)
       (subst (λ a. IsNextLine (lines_ahead old before) a old.lines here.lines (lines_ahead here after)) is g)) next) makes
 
-  pub line_turns : (new : Following) (last : Option ℕ) → is_refused mid.keeper.state made.0 ≡ false → new.keeper.state ≡ after_fed mid.keeper.state (record { change = made.0; position = made.1 })
+  pub line_turns : (new : Following) (last : Option ℕ) → is_refused mid.keeper.state made.0 ≡ false → IsAfter mid.keeper made.0 made.1 new.keeper
       → new.mbox ≡ mid.mbox → new.lines ≡ here.lines
       → IfKnown l m (λ mails_before mails_after. IfKnown k n (λ before after.
-      MakesFirst old.keeper.state (to_come last old mails_before (Some before)) new.keeper.state (to_come last new mails_after (Some after))))
-  line_turns new last room state same_mbox same_lines = stepped _ (λ mails_before mails_after before after h g.
-      subst (λ (r : Reading). MakesFirst old.keeper.state (to_come last old mails_before (Some before)) new.keeper.state
+      MakesFirst old.keeper (to_come last old mails_before (Some before)) new.keeper (to_come last new mails_after (Some after))))
+  line_turns new last room is_after same_mbox same_lines = stepped _ (λ mails_before mails_after before after h g.
+      subst (λ (r : Reading). MakesFirst old.keeper (to_come last old mails_before (Some before)) new.keeper
       (lines_fed last new.keeper.state.mailbox.next_uid new.keeper.state.position (mails_from (mbox_position r) (r.held ++ mails_after)) (lines_ahead new after))) (sym same_mbox)
-      (subst (λ (r : StepsReading). MakesFirst old.keeper.state (to_come last old mails_before (Some before)) new.keeper.state
+      (subst (λ (r : StepsReading). MakesFirst old.keeper (to_come last old mails_before (Some before)) new.keeper
       (lines_fed last new.keeper.state.mailbox.next_uid new.keeper.state.position (mails_ahead mid mails_after) (ended_lines (r.held ++ after)))) (sym same_lines)
       (by before after mails_before mails_after h (lines_ahead old before) g)))
     where
       by : (before after mails_before mails_after : List ℕ) → Makes st old.keeper.state.mailbox.next_uid p (mails_ahead old mails_before) made (mails_ahead mid mails_after)
           → (ls : List (List ℕ)) → IsNextLine ls (taken_line.Step st) old.lines here.lines (lines_ahead here after)
-          → MakesFirst old.keeper.state (lines_fed last old.keeper.state.mailbox.next_uid old.keeper.state.position (mails_ahead old mails_before) ls) new.keeper.state
+          → MakesFirst old.keeper (lines_fed last old.keeper.state.mailbox.next_uid old.keeper.state.position (mails_ahead old mails_before) ls) new.keeper
           (lines_fed last new.keeper.state.mailbox.next_uid new.keeper.state.position (mails_ahead mid mails_after) (lines_ahead here after))
       by before after mails_before mails_after h [] g = absurd g
       by before after mails_before mails_after h (raw ∷ ls) g =
-          line_goes last old.keeper.state new.keeper.state raw ls (lines_ahead here after) st (mails_ahead old mails_before) (mails_ahead mid mails_after) made.0 p made.1
-          g.0 g.2 (at_raw raw g.1) h (ap (λ s. is_refused s made.0) (sym mid_state) ∙ room) (state ∙ ap (λ s. after_fed s (record { change = made.0; position = made.1 })) mid_state)
+          line_goes last old.keeper new.keeper raw ls (lines_ahead here after) st (mails_ahead old mails_before) (mails_ahead mid mails_after) made.0 p made.1
+          g.0 g.2 (at_raw raw g.1) h (ap (λ s. is_refused s made.0) (sym mid_state) ∙ room) (subst (λ (k : Keeping). IsAfter k made.0 made.1 new.keeper) mid_keeper is_after)
 
   pub line_stops : (last : Option ℕ) (why : RunFault) → (why ≡ fault.Full) ⊎ (why ≡ fault.Memory) → (why ≡ fault.Full → is_refused mid.keeper.state made.0 ≡ true)
       → IfKnown l m (λ mails_before mails_after. IfKnown k n (λ before after. StopsAt why old.keeper.state (to_come last old mails_before (Some before))))

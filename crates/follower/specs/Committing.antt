@@ -1,10 +1,11 @@
 -- How the changes of a run are committed: whenever 256 are pending, and at the end.
-use Rattle.std.specs.Prelude.{◌≡◌, ◌⊎◌, ◌≤◌, ℕ, ◌+◌, ◌*◌, ◌/◌, length, take, Option, Some, None, Result, Ok, Err, ⊤}
+use Rattle.std.specs.Prelude.{◌≡◌, ◌⊎◌, ◌≤◌, ℕ, ◌+◌, ◌*◌, length, take, drop, Option, Some, None, Result, Ok, Err, ⊤}
 use Rattle.outside.specs.Places.{Places}
 use Rattle.outside.specs.Moments.{IsKnown}
 use Rattle.mailbox_model.specs.Lists.{Bytes}
 use Rattle.state_store.specs.States.{State}
 use Rattle.state_store.specs.Stands.{stands}
+use Rattle.state_store.specs.Commits.{Fill, fill_of}
 use Rattle.keeper.specs.Keeping.{Keeping}
 use Rattle.follower.specs.declared.fault.RunFault.{RunFault}
 use Rattle.follower.specs.declared.fault.RunFault.TheVariants as fault
@@ -13,18 +14,14 @@ use Rattle.follower.specs.declared.follower.Turned.TheVariants as turned
 use Rattle.follower.specs.Feed.{Feed, ends, End, last_fed}
 use Rattle.follower.specs.Following.{Following, to_come}
 use Rattle.follower.specs.Going.{AreMade, Leads, after_feds}
-use Rattle.follower.specs.Reached.{Stop, Full, BadStep, count_made, reached}
+use Rattle.follower.specs.Reached.{Stop, Full, BadStep, committed_count, reached}
+use Rattle.follower.specs.Spending.{Counts, RoseWithin, run_spends, spelled, spent_by}
 
 -- ---- what is committed
 
--- of so many changes that are made: all, or where the changes come to no end, those of whole commits
-abbrev pub committed_of : Option Stop → ℕ → ℕ
-committed_of None made = made
-committed_of (Some why) made = 256 * (made / 256)
-
 -- the state that a run commits last
 abbrev pub committed : State → Feed → State
-committed s feed = after_feds s (take (committed_of (reached s feed).stop (count_made s feed.changes)) feed.changes)
+committed s feed = after_feds s (take (committed_count s feed) feed.changes)
 
 -- the changes of whole commits, or all
 abbrev pub IsWhole : ℕ → Feed → Type 0
@@ -44,18 +41,31 @@ AllStand me s outcomes = (c : Places) → outcomes c → stands me c ≡ Ok s
 
 -- ---- a run on its way
 
+-- where a run sets out: the state that stands, how full the store is, and what is counted there
+pub record Outset : Type 0 where
+  pub state : State
+  pub fill : Fill
+  pub counts : Counts
+
+-- it sets out from what a keeper has
+abbrev pub outset : Keeping → Counts → Outset
+outset k now = record { state = k.state; fill = fill_of k.store; counts = now }
+
 -- The first changes of a feed are made, and those of whole commits are kept. The others are still to come.
-pub record Way (start : State) (feed others : Feed) (k : Keeping) (places : Places) : Type 0 where
-  pub leads : Leads start feed k.state others
+pub record Way (start : Outset) (feed others : Feed) (k : Keeping) (now : Counts) (places : Places) : Type 0 where
+  pub leads : Leads start.state feed k.state others
   pub commits : ℕ
   pub split : length leads.done ≡ 256 * commits + k.pending.count
-  pub is : stands start.mailbox.me places ≡ Ok (after_feds start (take (256 * commits) leads.done))
+  pub is : stands start.state.mailbox.me places ≡ Ok (after_feds start.state (take (256 * commits) leads.done))
+  pub pending : k.pending.bytes ≡ spelled (drop (256 * commits) leads.done)
+  pub fill : fill_of k.store ≡ (spent_by start.state start.fill feed.changes commits).fill
+  pub rose : RoseWithin start.counts (spent_by start.state start.fill feed.changes commits).counts now
 
 -- the same over a shelf whose contents are known
-pub record OnWay (start : State) (feed : Feed) (IsToCome : Feed → Type 0) (k : Keeping) (seen : Option Places) : Type 0 where
+pub record OnWay (start : Outset) (feed : Feed) (IsToCome : Feed → Type 0) (k : Keeping) (now : Counts) (seen : Option Places) : Type 0 where
   pub others : Feed
   pub to_come : IsToCome others
-  pub known : IsKnown seen (Way start feed others k)
+  pub known : IsKnown seen (Way start feed others k now)
 
 -- what is still to come of an mbox, and of a steps file, whose bytes are known
 abbrev pub MailsToCome : Following → Option Bytes → Feed → Type 0
@@ -72,6 +82,12 @@ LastToCome last k feed = feed ≡ last_fed last k.state.position
 abbrev pub NothingToCome : Feed → Type 0
 NothingToCome feed = feed ≡ ends End
 
+-- ---- where a run comes to an end, or to none
+
+-- no more is counted than all commits of the run read and write
+abbrev pub SpendsWithin : Outset → Feed → Counts → Type 0
+SpendsWithin start feed now = RoseWithin start.counts (run_spends start.state start.fill feed) now
+
 -- The changes come to no end, and each crash outcome has the state of whole commits.
 pub record Halts (why : Stop) (start : State) (feed : Feed) (outcomes : Places → Type 0) : Type 0 where
   pub stop : (reached start feed).stop ≡ Some why
@@ -82,23 +98,41 @@ HaltsAt fault.Full start feed outcomes = Halts Full start feed outcomes
 HaltsAt (fault.Steps number) start feed outcomes = Halts (BadStep number) start feed outcomes
 HaltsAt _ start feed outcomes = ⊤
 
--- All changes but the last moment are made, or this is why they come to no end.
-abbrev pub AllGo : {T : Type 0} → Option ℕ → Result T RunFault → State → Feed → Keeping → Option Places → (Places → Type 0) → Type 0
-AllGo last (Ok _) start feed k seen outcomes = OnWay start feed (LastToCome last k) k seen
-AllGo last (Err why) start feed k seen outcomes = HaltsAt why start feed outcomes
-
--- the last moment is made too, where there is one
-abbrev pub LastGoes : {T : Type 0} → Result T RunFault → State → Feed → Keeping → Option Places → (Places → Type 0) → Type 0
-LastGoes (Ok _) start feed k seen outcomes = OnWay start feed NothingToCome k seen
-LastGoes (Err why) start feed k seen outcomes = HaltsAt why start feed outcomes
+-- why a run comes to no end
+pub record Stops (why : RunFault) (start : Outset) (feed : Feed) (now : Counts) (outcomes : Places → Type 0) : Type 0 where
+  pub halts : HaltsAt why start.state feed outcomes
+  pub spends : SpendsWithin start feed now
 
 -- All changes are made, and each crash outcome has the state after them.
-pub record Ends (start : State) (feed : Feed) (k : Keeping) (outcomes : Places → Type 0) : Type 0 where
-  pub all : reached start feed ≡ record { state = k.state; stop = None }
-  pub each : AllStand start.mailbox.me (committed start feed) outcomes
+pub record Ends (start : Outset) (feed : Feed) (k : Keeping) (now : Counts) (outcomes : Places → Type 0) : Type 0 where
+  pub all : reached start.state feed ≡ record { state = k.state; stop = None }
+  pub each : AllStand start.state.mailbox.me (committed start.state feed) outcomes
+  pub spends : SpendsWithin start feed now
 
--- A round of a run on its way makes the next change, or it has all but the last moment, or this is why it comes to no end.
-abbrev pub RoundGoes : Option ℕ → Result Turned RunFault → State → Feed → (Feed → Type 0) → Keeping → Option Places → (Places → Type 0) → Type 0
-RoundGoes last (Ok turned.Applied) start feed IsToCome k seen outcomes = OnWay start feed IsToCome k seen
-RoundGoes last (Ok turned.End) start feed IsToCome k seen outcomes = OnWay start feed (LastToCome last k) k seen
-RoundGoes last (Err why) start feed IsToCome k seen outcomes = HaltsAt why start feed outcomes
+-- ---- what a call of a run does
+
+-- a commit leaves it on its way
+abbrev pub CommitGoes : Result Unit RunFault → Outset → Feed → Feed → Keeping → Counts → Option Places → Type 0
+CommitGoes (Ok _) start feed others k now seen = IsKnown seen (Way start feed others k now)
+CommitGoes (Err why) start feed others k now seen = SpendsWithin start feed now
+
+-- A round makes the next change, or it has all but the last moment, or this is why it comes to no end.
+abbrev pub RoundGoes : Option ℕ → Result Turned RunFault → Outset → Feed → (Feed → Type 0) → Keeping → Counts → Option Places → (Places → Type 0) → Type 0
+RoundGoes last (Ok turned.Applied) start feed IsToCome k now seen outcomes = OnWay start feed IsToCome k now seen
+RoundGoes last (Ok turned.End) start feed IsToCome k now seen outcomes = OnWay start feed (LastToCome last k) k now seen
+RoundGoes last (Err why) start feed IsToCome k now seen outcomes = Stops why start feed now outcomes
+
+-- All changes but the last moment are made, or this is why they come to no end.
+abbrev pub AllGo : Option ℕ → Result Unit RunFault → Outset → Feed → Keeping → Counts → Option Places → (Places → Type 0) → Type 0
+AllGo last (Ok _) start feed k now seen outcomes = OnWay start feed (LastToCome last k) k now seen
+AllGo last (Err why) start feed k now seen outcomes = Stops why start feed now outcomes
+
+-- the last moment is made too, where there is one
+abbrev pub LastGoes : Result Unit RunFault → Outset → Feed → Keeping → Counts → Option Places → (Places → Type 0) → Type 0
+LastGoes (Ok _) start feed k now seen outcomes = OnWay start feed NothingToCome k now seen
+LastGoes (Err why) start feed k now seen outcomes = Stops why start feed now outcomes
+
+-- all that is made is committed
+abbrev pub EndGoes : Result Unit RunFault → Outset → Feed → Keeping → Counts → (Places → Type 0) → Type 0
+EndGoes (Ok _) start feed k now outcomes = Ends start feed k now outcomes
+EndGoes (Err why) start feed k now outcomes = Stops why start feed now outcomes

@@ -108,7 +108,7 @@ Raises old new turned.End = ⊤
 
 -- A turn makes the next change, so the others are to come after it; at the end there is none.
 abbrev pub TurnGoes : Option ℕ → Result Turned RunFault → Following → Feed → Following → Feed → Type 0
-TurnGoes last (Ok turned.Applied) old before new after = MakesFirst old.keeper.state before new.keeper.state after
+TurnGoes last (Ok turned.Applied) old before new after = MakesFirst old.keeper before new.keeper after
 TurnGoes last (Ok turned.End) old before new after =
     (before ≡ last_fed last old.keeper.state.position) × (new.keeper.state ≡ old.keeper.state)
 TurnGoes last (Err why) old before new after = StopsAt why old.keeper.state before

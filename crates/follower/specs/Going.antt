@@ -3,17 +3,19 @@ use Rattle.std.specs.Prelude.{◌≡◌, true, false, List, [], ◌∷◌, ⊤}
 use Rattle.follower.specs.declared.fault.RunFault.{RunFault}
 use Rattle.follower.specs.declared.fault.RunFault.TheVariants as fault
 use Rattle.state_store.specs.States.{State}
-use Rattle.keeper.specs.Keeping.{is_refused}
+use Rattle.keeper.specs.Keeping.{Keeping, is_refused}
+use Rattle.keeper.specs.Pending.{with_change}
 use Rattle.follower.specs.Feed.{Fed, Feed, BadLine, after_fed, ends, fed_first}
 
 -- ---- one change
 
--- The first change has room and leads to the new state, and the others follow it.
-pub record MakesFirst (old : State) (feed : Feed) (new : State) (others : Feed) : Type 0 where
+-- The first change has room, leads to the new state, and is pending. The others follow it.
+pub record MakesFirst (old : Keeping) (feed : Feed) (new : Keeping) (others : Feed) : Type 0 where
   pub fed : Fed
   pub first : feed ≡ fed_first fed others
-  pub room : is_refused old fed.change ≡ false
-  pub state : new ≡ after_fed old fed
+  pub room : is_refused old.state fed.change ≡ false
+  pub state : new.state ≡ after_fed old.state fed
+  pub pending : new.pending ≡ with_change old.pending fed.change
 
 -- the first change has no room
 pub record RefusesFirst (s : State) (feed : Feed) : Type 0 where

@@ -4,6 +4,7 @@ pub mod Feed
 pub mod Reached
 pub mod Going
 pub mod Following
+pub mod Spending
 pub mod Committing
 pub mod Opening
 pub mod Resuming

@@ -1,5 +1,5 @@
 -- How far the changes of a run come.
-use Rattle.std.specs.Prelude.{ℕ, ◌+◌, if◌then◌else◌, List, [], ◌∷◌, Option, Some, None}
+use Rattle.std.specs.Prelude.{ℕ, ◌+◌, ◌*◌, ◌/◌, if◌then◌else◌, List, [], ◌∷◌, Option, Some, None}
 use Rattle.state_store.specs.States.{State}
 use Rattle.keeper.specs.Keeping.{is_refused}
 use Rattle.follower.specs.Feed.{Fed, Ending, End, BadLine, Feed, after_fed}
@@ -31,3 +31,12 @@ reached s f = reach s f.changes f.ending
 abbrev pub count_made : State → List Fed → ℕ
 count_made s [] = 0
 count_made s (f ∷ fs) = if is_refused s f.change then 0 else count_made (after_fed s f) fs + 1
+
+-- of so many changes that are made: all, or where the changes come to no end, those of whole commits of 256
+abbrev pub committed_of : Option Stop → ℕ → ℕ
+committed_of None made = made
+committed_of (Some why) made = 256 * (made / 256)
+
+-- how many of the changes are committed
+abbrev pub committed_count : State → Feed → ℕ
+committed_count s feed = committed_of (reached s feed).stop (count_made s feed.changes)

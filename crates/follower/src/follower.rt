@@ -9,14 +9,13 @@ ghost use Rattle.outside.specs.Crash.{RisesUpTo};
 ghost use Rattle.outside.specs.Moments.{LeavesOnly, Reached, WhereKnown, KnownThen};
 ghost use Rattle.outside.specs.Places.{Places};
 ghost use Rattle.source_buffer.specs.Known.{IfKnown};
-ghost use Rattle.state_image.specs.Images.{image, cards_in};
-ghost use Rattle.state_store.specs.Commits.{OldOrNew, is_due};
+ghost use Rattle.state_store.specs.Commits.{OldOrNew, commit_reads, commit_writes, fill_of, fill_with};
 ghost use Rattle.state_store.specs.Stands.{stands};
-ghost use Rattle.state_store.specs.Stored.{IsStored, SameFound};
+ghost use Rattle.state_store.specs.Stored.{IsStored, SameFound, fill_in};
 ghost use Rattle.steps_file.specs.Reading as steps_reading;
 ghost use Rattle.keeper.specs.Keeping.{IsKept, IsWithin, is_refused};
-ghost use Rattle.keeper.specs.Opening.{AllFindSame};
-ghost use Rattle.keeper.specs.Pending.{none_pending};
+ghost use Rattle.keeper.specs.Opening.{AllFindSame, load_of};
+ghost use Rattle.keeper.specs.Pending.{none_pending, with_change};
 ghost use Rattle.follower.specs.Feed.{after_fed, moment_fed};
 ghost use Rattle.follower.specs.Following.{Adds, ArrivesNext, IsCause, IsKeepFault, IsTurnFault, LacksMail, Makes, MakesMoment, TurnAdds, TurnGoes, to_come, mails_ahead};
 ghost use Rattle.follower.specs.Opening.{OnOtherMe, Opens, StartsLines, StartsMbox};
@@ -93,6 +92,7 @@ impl Follower {
     /// - `kept`, `stored`, `same`: after Ok the shelf is settled for the follower, and the same is found there.
     /// - `any_moment`: a crash at any moment leaves that in which the same is found as in what it might have left at the start.
     /// - `other`: after `OtherMe` each crash outcome has that in which the same is found as in what the reads gave at the start.
+    /// - `load`, `cost`: it reads kept cards no more often than the load of the mailbox says, whatever is answered.
     pub fn open<H: Shelf, L: Ledger>(
         alloc: Global,
         me: &Addr,
@@ -112,7 +112,9 @@ impl Follower {
             (Reached (H.may_leave shelf.old) SameFound)) }
         ensures other { OnOtherMe result (WhereKnown (H.seen shelf.old) (AllFindSame (H.may_leave shelf.new))) }
         ensures written { H.written shelf.new ≡ H.written shelf.old }
+        ensures fill { IfOk result (λ f. WhereKnown (H.seen shelf.old) (λ places. fill_of f.keeper.store ≡ fill_in places)) }
         ensures load { IfOk result (λ f. steps.new ≤ steps.old + load f.keeper.state.mailbox) }
+        ensures cost { WhereKnown (H.seen shelf.old) (λ places. steps.new ≤ steps.old + load_of (stands me.now places)) }
         ensures later { H.faults shelf.old ≤ H.faults shelf.new }
         ensures cause { IsErrOf result RunFault.Disk → Rose (H.faults shelf.old) (H.faults shelf.new) }
         ensures possible { IfErr result IsKeepFault }
@@ -214,6 +216,7 @@ impl Follower {
         requires moment { moment ≤ last_moment }
         ensures room { OnOk result (is_refused self.old.keeper.state (At moment) ≡ false) }
         ensures state { OnOk result (self.new.keeper.state ≡ after_fed self.old.keeper.state (moment_fed self.old.keeper.state.position moment)) }
+        ensures pending { OnOk result (self.new.keeper.pending ≡ with_change self.old.keeper.pending (At moment)) }
         ensures adds { OnOk result (Adds self.old.keeper self.new.keeper) }
         ensures kept { OnOk result ((places : Places) → IsKept self.old.keeper places → IsKept self.new.keeper places) }
         ensures store { self.new.keeper.store ≡ self.old.keeper.store }
@@ -389,8 +392,10 @@ impl Follower {
     ///
     /// - `any_moment`: a crash at any moment leaves the state of before or that of the follower.
     /// - `lasting`, `kept`, `stored`, `pending`: after Ok the follower's state stands, it alone is left, and nothing is pending.
-    /// - `appended`, `saved`: no more is written than 40 bytes beside the changes, or 18 beside the image.
-    /// - `most`: an image reads each kept card once, by the count of steps.
+    /// - `fill`: after Ok the tail has the group too, or after a checkpoint nothing.
+    /// - `written`: no more is written than 40 bytes beside the changes, or where a checkpoint falls due 18 beside the image.
+    /// - `reads`: an image reads each kept card once, and a group none.
+    /// - `few`, `none`: no more than 256 changes are pending, and where none is nothing is done.
     pub fn commit<H: Shelf, L: Ledger>(
         &mut self,
         shelf: &mut H,
@@ -411,13 +416,17 @@ impl Follower {
         ensures lines { self.new.lines ≡ self.old.lines }
         ensures failed { self.new.failed ≡ is_err result }
         ensures untouched { IsErrOf result RunFault.Memory → shelf.new ≡ shelf.old }
-        ensures appended { is_due self.old.keeper.store (39 + length self.old.keeper.pending.bytes) ≡ false
-            → RisesUpTo (40 + length self.old.keeper.pending.bytes) (H.written shelf.old) (H.written shelf.new) × (steps.new ≡ steps.old) }
-        ensures saved { is_due self.old.keeper.store (39 + length self.old.keeper.pending.bytes) ≡ true
-            → RisesUpTo (length (image self.old.keeper.state.mailbox self.old.keeper.state.position) + 18) (H.written shelf.old) (H.written shelf.new) }
-        ensures most { steps.new ≤ steps.old + cards_in self.old.keeper.state.mailbox }
+        ensures fill { 1 ≤ self.old.keeper.pending.count
+            → OnOk result (fill_of self.new.keeper.store ≡ fill_with (fill_of self.old.keeper.store) (39 + length self.old.keeper.pending.bytes)) }
+        ensures none { self.old.keeper.pending.count ≡ 0
+            → (self.new.keeper.store ≡ self.old.keeper.store) × (shelf.new ≡ shelf.old) × (steps.new ≡ steps.old) }
+        ensures reads { steps.new ≤ steps.old
+            + commit_reads (fill_of self.old.keeper.store) (length self.old.keeper.pending.bytes) self.old.keeper.state }
+        ensures written { RisesUpTo (commit_writes (fill_of self.old.keeper.store) (length self.old.keeper.pending.bytes) self.old.keeper.state)
+            (H.written shelf.old) (H.written shelf.new) }
         ensures later { H.faults shelf.old ≤ H.faults shelf.new }
         ensures cause { IsErrOf result RunFault.Disk → Rose (H.faults shelf.old) (H.faults shelf.new) }
+        ensures few { self.old.keeper.pending.count ≤ 256 }
         ensures possible { IfErr result (λ why. (why ≡ fault.Disk) ⊎ (why ≡ fault.Memory)) }
     {
         self.failed = true;

@@ -4,13 +4,13 @@ ghost use Rattle.kit.specs.Moments.{last_moment};
 ghost use Rattle.mboxrd.specs.Reading as mbox_reading;
 ghost use Rattle.outside.specs.Causes.{Rose};
 ghost use Rattle.outside.specs.Moments.{IsKnown, LeavesOnly, WhereKnown};
-ghost use Rattle.state_store.specs.States.{State};
 ghost use Rattle.state_store.specs.Stored.{IsStored};
 ghost use Rattle.steps_file.specs.Reading as steps_reading;
 ghost use Rattle.keeper.specs.Keeping.{IsKept};
-ghost use Rattle.follower.specs.Committing.{AllGo, Ends, LastGoes, LastToCome, LinesToCome, MailsToCome, NothingToCome, OnWay, Prefix, RoundGoes, Way};
+ghost use Rattle.follower.specs.Committing.{AllGo, CommitGoes, EndGoes, LastGoes, LastToCome, LinesToCome, MailsToCome, NothingToCome, OnWay, Outset, Prefix, RoundGoes, Way};
 ghost use Rattle.follower.specs.Feed.{Feed};
 ghost use Rattle.follower.specs.Following.{IsCause, IsFollowFault, Raises};
+ghost use Rattle.follower.specs.Spending.{counts};
 ghost use Rattle.follower.specs.declared.fault.RunFault.TheVariants as fault;
 
 use crate::fault::RunFault;
@@ -34,9 +34,10 @@ pub fn commit_if_full<H: Shelf, L: Ledger>(
     requires few { follower.old.keeper.pending.count ≤ 256 }
     requires kept { WhereKnown (H.seen shelf.old) (IsKept follower.old.keeper) }
     requires stored { WhereKnown (H.seen shelf.old) (IsStored follower.old.keeper.store (H.may_leave shelf.old)) }
-    ensures goes { (start : State) (feed others : Feed) → IsKnown (H.seen shelf.old) (Way start feed others follower.old.keeper)
-        → LeavesOnly H.moment H.left_since shelf.old shelf.new (Prefix start feed)
-        × OnOk result (IsKnown (H.seen shelf.new) (Way start feed others follower.new.keeper)) }
+    ensures goes { (start : Outset) (feed others : Feed)
+        → IsKnown (H.seen shelf.old) (Way start feed others follower.old.keeper (counts steps.old (H.written shelf.old)))
+        → LeavesOnly H.moment H.left_since shelf.old shelf.new (Prefix start.state feed)
+        × CommitGoes result start feed others follower.new.keeper (counts steps.new (H.written shelf.new)) (H.seen shelf.new) }
     ensures usable { OnOk result (follower.new.failed ≡ false) }
     ensures few { OnOk result (follower.new.keeper.pending.count < 256) }
     ensures kept { OnOk result (WhereKnown (H.seen shelf.new) (IsKept follower.new.keeper)) }
@@ -67,10 +68,12 @@ fn round_of_mail<M: Source, H: Shelf, L: Ledger>(
     requires few { follower.old.keeper.pending.count ≤ 256 }
     requires kept { WhereKnown (H.seen shelf.old) (IsKept follower.old.keeper) }
     requires stored { WhereKnown (H.seen shelf.old) (IsStored follower.old.keeper.store (H.may_leave shelf.old)) }
-    ensures goes { (start : State) (feed : Feed)
-        → OnWay start feed (MailsToCome follower.old (M.left mbox.old)) follower.old.keeper (H.seen shelf.old)
-        → LeavesOnly H.moment H.left_since shelf.old shelf.new (Prefix start feed)
-        × RoundGoes None result start feed (MailsToCome follower.new (M.left mbox.new)) follower.new.keeper (H.seen shelf.new) (H.may_leave shelf.new) }
+    ensures goes { (start : Outset) (feed : Feed)
+        → OnWay start feed (MailsToCome follower.old (M.left mbox.old)) follower.old.keeper
+        (counts steps.old (H.written shelf.old)) (H.seen shelf.old)
+        → LeavesOnly H.moment H.left_since shelf.old shelf.new (Prefix start.state feed)
+        × RoundGoes None result start feed (MailsToCome follower.new (M.left mbox.new)) follower.new.keeper
+        (counts steps.new (H.written shelf.new)) (H.seen shelf.new) (H.may_leave shelf.new) }
     ensures usable { OnOk result (follower.new.failed ≡ false) }
     ensures few { OnOk result (follower.new.keeper.pending.count ≤ 256) }
     ensures kept { OnOk result (WhereKnown (H.seen shelf.new) (IsKept follower.new.keeper)) }
@@ -102,10 +105,12 @@ pub fn follow_mails<M: Source, H: Shelf, L: Ledger>(
     requires few { follower.old.keeper.pending.count ≤ 256 }
     requires kept { WhereKnown (H.seen shelf.old) (IsKept follower.old.keeper) }
     requires stored { WhereKnown (H.seen shelf.old) (IsStored follower.old.keeper.store (H.may_leave shelf.old)) }
-    ensures goes { (start : State) (feed : Feed)
-        → OnWay start feed (MailsToCome follower.old (M.left mbox.old)) follower.old.keeper (H.seen shelf.old)
-        → LeavesOnly H.moment H.left_since shelf.old shelf.new (Prefix start feed)
-        × AllGo None result start feed follower.new.keeper (H.seen shelf.new) (H.may_leave shelf.new) }
+    ensures goes { (start : Outset) (feed : Feed)
+        → OnWay start feed (MailsToCome follower.old (M.left mbox.old)) follower.old.keeper
+        (counts steps.old (H.written shelf.old)) (H.seen shelf.old)
+        → LeavesOnly H.moment H.left_since shelf.old shelf.new (Prefix start.state feed)
+        × AllGo None result start feed follower.new.keeper
+        (counts steps.new (H.written shelf.new)) (H.seen shelf.new) (H.may_leave shelf.new) }
     ensures usable { OnOk result (follower.new.failed ≡ false) }
     ensures few { OnOk result (follower.new.keeper.pending.count ≤ 256) }
     ensures kept { OnOk result (WhereKnown (H.seen shelf.new) (IsKept follower.new.keeper)) }
@@ -141,11 +146,12 @@ fn round_of_line<M: Source, S: Source, H: Shelf, L: Ledger>(
     requires place { follower.old.lines.place ≡ follower.old.keeper.state.position.steps }
     requires kept { WhereKnown (H.seen shelf.old) (IsKept follower.old.keeper) }
     requires stored { WhereKnown (H.seen shelf.old) (IsStored follower.old.keeper.store (H.may_leave shelf.old)) }
-    ensures goes { (last : Option ℕ) (start : State) (feed : Feed)
-        → OnWay start feed (LinesToCome last follower.old (M.left mbox.old) (S.left steps_file.old)) follower.old.keeper (H.seen shelf.old)
-        → LeavesOnly H.moment H.left_since shelf.old shelf.new (Prefix start feed)
+    ensures goes { (last : Option ℕ) (start : Outset) (feed : Feed)
+        → OnWay start feed (LinesToCome last follower.old (M.left mbox.old) (S.left steps_file.old)) follower.old.keeper
+        (counts steps.old (H.written shelf.old)) (H.seen shelf.old)
+        → LeavesOnly H.moment H.left_since shelf.old shelf.new (Prefix start.state feed)
         × RoundGoes last result start feed (LinesToCome last follower.new (M.left mbox.new) (S.left steps_file.new)) follower.new.keeper
-        (H.seen shelf.new) (H.may_leave shelf.new) }
+        (counts steps.new (H.written shelf.new)) (H.seen shelf.new) (H.may_leave shelf.new) }
     ensures usable { OnOk result (follower.new.failed ≡ false) }
     ensures few { OnOk result (follower.new.keeper.pending.count ≤ 256) }
     ensures place { OnOk result (follower.new.lines.place ≡ follower.new.keeper.state.position.steps) }
@@ -181,10 +187,12 @@ pub fn follow_lines<M: Source, S: Source, H: Shelf, L: Ledger>(
     requires place { follower.old.lines.place ≡ follower.old.keeper.state.position.steps }
     requires kept { WhereKnown (H.seen shelf.old) (IsKept follower.old.keeper) }
     requires stored { WhereKnown (H.seen shelf.old) (IsStored follower.old.keeper.store (H.may_leave shelf.old)) }
-    ensures goes { (last : Option ℕ) (start : State) (feed : Feed)
-        → OnWay start feed (LinesToCome last follower.old (M.left mbox.old) (S.left steps_file.old)) follower.old.keeper (H.seen shelf.old)
-        → LeavesOnly H.moment H.left_since shelf.old shelf.new (Prefix start feed)
-        × AllGo last result start feed follower.new.keeper (H.seen shelf.new) (H.may_leave shelf.new) }
+    ensures goes { (last : Option ℕ) (start : Outset) (feed : Feed)
+        → OnWay start feed (LinesToCome last follower.old (M.left mbox.old) (S.left steps_file.old)) follower.old.keeper
+        (counts steps.old (H.written shelf.old)) (H.seen shelf.old)
+        → LeavesOnly H.moment H.left_since shelf.old shelf.new (Prefix start.state feed)
+        × AllGo last result start feed follower.new.keeper
+        (counts steps.new (H.written shelf.new)) (H.seen shelf.new) (H.may_leave shelf.new) }
     ensures usable { OnOk result (follower.new.failed ≡ false) }
     ensures few { OnOk result (follower.new.keeper.pending.count ≤ 256) }
     ensures kept { OnOk result (WhereKnown (H.seen shelf.new) (IsKept follower.new.keeper)) }
@@ -221,10 +229,12 @@ pub fn make_last<H: Shelf, L: Ledger>(
     requires few { follower.old.keeper.pending.count ≤ 256 }
     requires kept { WhereKnown (H.seen shelf.old) (IsKept follower.old.keeper) }
     requires stored { WhereKnown (H.seen shelf.old) (IsStored follower.old.keeper.store (H.may_leave shelf.old)) }
-    ensures goes { (start : State) (feed : Feed)
-        → OnWay start feed (LastToCome last follower.old.keeper) follower.old.keeper (H.seen shelf.old)
-        → LeavesOnly H.moment H.left_since shelf.old shelf.new (Prefix start feed)
-        × LastGoes result start feed follower.new.keeper (H.seen shelf.new) (H.may_leave shelf.new) }
+    ensures goes { (start : Outset) (feed : Feed)
+        → OnWay start feed (LastToCome last follower.old.keeper) follower.old.keeper
+        (counts steps.old (H.written shelf.old)) (H.seen shelf.old)
+        → LeavesOnly H.moment H.left_since shelf.old shelf.new (Prefix start.state feed)
+        × LastGoes result start feed follower.new.keeper
+        (counts steps.new (H.written shelf.new)) (H.seen shelf.new) (H.may_leave shelf.new) }
     ensures usable { OnOk result (follower.new.failed ≡ false) }
     ensures kept { OnOk result (WhereKnown (H.seen shelf.new) (IsKept follower.new.keeper)) }
     ensures stored { OnOk result (WhereKnown (H.seen shelf.new) (IsStored follower.new.keeper.store (H.may_leave shelf.new))) }
@@ -253,9 +263,10 @@ pub fn commit_all<H: Shelf, L: Ledger>(
     requires usable { follower.old.failed ≡ false }
     requires kept { WhereKnown (H.seen shelf.old) (IsKept follower.old.keeper) }
     requires stored { WhereKnown (H.seen shelf.old) (IsStored follower.old.keeper.store (H.may_leave shelf.old)) }
-    ensures goes { (start : State) (feed : Feed) → OnWay start feed NothingToCome follower.old.keeper (H.seen shelf.old)
-        → LeavesOnly H.moment H.left_since shelf.old shelf.new (Prefix start feed)
-        × OnOk result (Ends start feed follower.new.keeper (H.may_leave shelf.new)) }
+    ensures goes { (start : Outset) (feed : Feed) → OnWay start feed NothingToCome follower.old.keeper
+        (counts steps.old (H.written shelf.old)) (H.seen shelf.old)
+        → LeavesOnly H.moment H.left_since shelf.old shelf.new (Prefix start.state feed)
+        × EndGoes result start feed follower.new.keeper (counts steps.new (H.written shelf.new)) (H.may_leave shelf.new) }
     ensures usable { OnOk result (follower.new.failed ≡ false) }
     ensures later { H.faults shelf.old ≤ H.faults shelf.new }
     ensures cause { IfErr result (IsCause ⊥ ⊥ (Rose (H.faults shelf.old) (H.faults shelf.new)) follower.new) }

@@ -22,8 +22,6 @@ pub const DISK: &str = "chats: disk fault\n";
 
 pub const READ: &str = "chats: read fault: mbox\n";
 
-pub const UNBUILT: &str = "chats: not built yet\n";
-
 /// The number of a call that there is not.
 pub const NEVER: u64 = 0;
 

@@ -1,7 +1,7 @@
 //! The words of a command line: which runs they start, and when the clock is asked.
 ghost use Rattle.std.specs.Prelude.{⊤, None};
 
-use crate::runs::{M1, M1_LINE, NEVER, UNBUILT, answered, empty_shelf, ended_by, source};
+use crate::runs::{M1, M1_LINE, NEVER, answered, empty_shelf, ended_by, source};
 use follow::Status;
 use kit::LAST_MOMENT;
 use outside::{Clock, FixedClock, NoShelf};
@@ -60,11 +60,17 @@ const NO_COMMANDS: [&str; 41] = [
     "--me me@x.org trial 000000000000000000007",
 ];
 
-/// Words of commands that are not answered yet.
-const NOT_BUILT: [&str; 3] = [
-    "--me me@x.org trial 7",
-    "--me me@x.org trial 00000000000000000007",
-    "--me me@x.org trial 18446744073709551615",
+/// Words that ask for a trial, and the line before its numbers.
+const TRIALS: [(&str, &str); 3] = [
+    ("--me me@x.org trial 7", "trial 7: 2000 mails, "),
+    (
+        "--me me@x.org trial 00000000000000000007",
+        "trial 7: 2000 mails, ",
+    ),
+    (
+        "--me me@x.org --at 1 trial 18446744073709551615",
+        "trial 18446744073709551615: 2000 mails, ",
+    ),
 ];
 
 /// Words that ask for a chat or an app that is not there, and the status.
@@ -143,24 +149,6 @@ fn words_that_are_no_command(rt: HostRuntime) -> Result<(), Fail> {
 }
 
 #[test]
-fn commands_that_are_not_answered_yet(rt: HostRuntime) -> Result<(), Fail> {
-    let alloc = rt.alloc();
-    for line in NOT_BUILT {
-        let words = line.split(' ').collect::<Vec<&str>>(alloc)?;
-        // The mbox would fail if it were read, and the shelf if it were called.
-        let mut mbox = source(alloc, M1, 1)?;
-        let mut shelf = NoShelf::new();
-        let mut clock = FixedClock::new(0);
-        let (end, text) = ended_by(
-            alloc, &words, &mut mbox, None, &mut shelf, &mut clock, NEVER,
-        )?;
-        assert_eq!(rt; end, Status::Unbuilt, "{line}");
-        assert_eq!(rt; text.as_str(), UNBUILT);
-    }
-    Ok(())
-}
-
-#[test]
 fn chats_and_apps_that_are_not_there(rt: HostRuntime) -> Result<(), Fail> {
     let alloc = rt.alloc();
     for (line, status, put) in NOT_THERE {
@@ -222,7 +210,6 @@ fn the_clock_is_asked_once_where_no_moment_is_given(rt: HostRuntime) -> Result<(
         ("--me me@x.org list", 1, early),
         ("--me me@x.org --at 1714564800 list", 0, M1_LINE),
         ("--me me@x.org contacts", 1, "bob@x.org | Bob\n"),
-        ("--me me@x.org trial 7", 0, UNBUILT),
         ("--me nobody list", 0, USAGE),
     ];
     for (line, asked, put) in cases {
@@ -238,6 +225,28 @@ fn the_clock_is_asked_once_where_no_moment_is_given(rt: HostRuntime) -> Result<(
         )?;
         assert_eq!(rt; clock.asked, asked, "{line}");
         assert_eq!(rt; text.as_str(), put);
+    }
+    Ok(())
+}
+
+#[test]
+fn a_trial_asks_no_device(rt: HostRuntime) -> Result<(), Fail> {
+    let alloc = rt.alloc();
+    for (line, head) in TRIALS {
+        let words = line.split(' ').collect::<Vec<&str>>(alloc)?;
+        // The mbox would fail if it were read, and the shelf if it were called.
+        let mut mbox = source(alloc, M1, 1)?;
+        let mut shelf = NoShelf::new();
+        let mut clock = CountingClock {
+            moment: 0,
+            asked: 0,
+        };
+        let (end, text) = ended_by(
+            alloc, &words, &mut mbox, None, &mut shelf, &mut clock, NEVER,
+        )?;
+        assert_eq!(rt; end, Status::Ok, "{line}");
+        assert!(rt; text.as_str().starts_with(head), "{line}");
+        assert_eq!(rt; clock.asked, 0);
     }
     Ok(())
 }

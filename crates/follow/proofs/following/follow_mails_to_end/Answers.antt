@@ -1,12 +1,13 @@
-use Rattle.std.proofs.Common.{Err, ap, subst, sym}
+use Rattle.std.proofs.Common.{ℕ, Err, ap, subst, sym}
 use Rattle.std.proofs.lemmas.Result.{err_from_is_err_and}
 use Rattle.outside.specs.Moments.{WhereKnown}
 use Rattle.outside.proofs.Moments.{and_then}
 use Rattle.state_store.specs.Stored.{IsStored}
 use Rattle.state_store.specs.declared.store.Store.{Store}
-use Rattle.follower.specs.Committing.{Prefix}
+use Rattle.follower.specs.Committing.{Prefix, Stops, outset}
+use Rattle.follower.specs.Spending.{counts}
 use Rattle.follower.proofs.Rounds.{nothing_leaves}
-use Rattle.follow.proofs.Followed.{end_goes, first_way, moment_made, moment_refused, whole}
+use Rattle.follow.proofs.Followed.{first_way, later_on, moment_made, moment_refused, whole}
 use Rattle.follow.proofs.following.follow_mails_to_end.Goals as goal
 
 pub follow_mails-requires-clause-stored : goal.follow_mails-requires-clause-stored
@@ -20,12 +21,14 @@ returns-in_err-at-clause-goes g c = λ rest mails is ahead known.
     let p = err_from_is_err_and c.from_residual.result c.from_residual.ensures.1 in
     let k = c.args.follower.now.keeper in
     let shelf = c.args.shelf.now in
+    let now = counts c.args.steps.now (H.written shelf) in
     let feed = whole k mails c.args.moment in
-    let way = first_way k feed (H.seen shelf) c.requires.pending known in
+    let way = first_way k feed now (H.seen shelf) c.requires.pending known in
     rw (p.1, p.2) (
-      nothing_leaves H.moment H.left_since H.seen H.may_leave k.state feed feed k shelf (g.met.H.Shelf.only_now shelf) way c.requires.stored,
-      moment_refused k mails c.args.moment (H.seen shelf) (H.may_leave shelf) c.in_err-at.field-0.0 way c.requires.pending c.requires.stored c.in_err-at.ensures.cause
-          (λ e. c.in_err-at.ensures.full (ap Err e)),
+      nothing_leaves H.moment H.left_since H.seen H.may_leave (outset k now) feed feed k now shelf (g.met.H.Shelf.only_now shelf) way c.requires.stored,
+      subst (λ (n : ℕ). Stops c.in_err-at.field-0.0 (outset k now) feed (counts n (H.written shelf)) (H.may_leave shelf)) (sym c.in_err-at.ensures.cost)
+          (moment_refused k mails c.args.moment now (H.seen shelf) (H.may_leave shelf) c.in_err-at.field-0.0 way c.requires.pending c.requires.stored c.in_err-at.ensures.cause
+          (λ e. c.in_err-at.ensures.full (ap Err e))),
     )
 
 pub returns-in_err-follow_mails-clause-goes : goal.returns-in_err-follow_mails-clause-goes
@@ -35,10 +38,12 @@ returns-in_err-follow_mails-clause-goes g c = λ rest mails is ahead known.
     let f = c.args.follower.now in
     let k = f.keeper in
     let shelf = c.args.shelf.now in
+    let now = counts c.args.steps.now (H.written shelf) in
     let feed = whole k mails c.args.moment in
     let made = c.in_ok-at.ensures in
-    let on = moment_made k mails c.args.moment (H.seen shelf) f c.at.new.self (g.M.Source.left c.args.mbox.now) rest is ahead made.mbox (first_way k feed (H.seen shelf) c.requires.pending known) made.room made.state made.adds in
-    rw (p.1, p.2) (c.in_err-follow_mails.ensures.goes k.state feed on)
+    let on = later_on (g.M.Source.left c.args.mbox.now) (H.seen shelf) (H.written shelf) (outset k now) feed c.at.new.self c.args.steps.now c.at.new.steps made.cost
+    (moment_made k mails c.args.moment now (H.seen shelf) f c.at.new.self (g.M.Source.left c.args.mbox.now) rest is ahead made.mbox (first_way k feed now (H.seen shelf) c.requires.pending known) made.room made.state made.pending made.store) in
+    rw (p.1, p.2) (c.in_err-follow_mails.ensures.goes (outset k now) feed on)
 
 pub returns-clause-goes : goal.returns-clause-goes
 returns-clause-goes g c = λ rest mails is ahead known.
@@ -48,11 +53,13 @@ returns-clause-goes g c = λ rest mails is ahead known.
     let shelf = c.args.shelf.now in
     let mid = c.follow_mails.new.shelf in
     let new = c.commit_all.new.shelf in
+    let now = counts c.args.steps.now (H.written shelf) in
     let feed = whole k mails c.args.moment in
     let made = c.in_ok-at.ensures in
-    let on = moment_made k mails c.args.moment (H.seen shelf) f c.at.new.self (g.M.Source.left c.args.mbox.now) rest is ahead made.mbox (first_way k feed (H.seen shelf) c.requires.pending known) made.room made.state made.adds in
-    let first = c.in_ok-follow_mails.ensures.goes k.state feed on in
-    let second = c.commit_all.ensures.goes k.state feed first.1 in (
+    let on = later_on (g.M.Source.left c.args.mbox.now) (H.seen shelf) (H.written shelf) (outset k now) feed c.at.new.self c.args.steps.now c.at.new.steps made.cost
+    (moment_made k mails c.args.moment now (H.seen shelf) f c.at.new.self (g.M.Source.left c.args.mbox.now) rest is ahead made.mbox (first_way k feed now (H.seen shelf) c.requires.pending known) made.room made.state made.pending made.store) in
+    let first = c.in_ok-follow_mails.ensures.goes (outset k now) feed on in
+    let second = c.commit_all.ensures.goes (outset k now) feed first.1 in (
       and_then H.moment H.left_since shelf mid new (Prefix k.state feed) (Prefix k.state feed) (Prefix k.state feed) first.0 second.0 (λ _ x. x) (λ _ x. x),
-      end_goes k.state feed c.commit_all.new.follower (H.may_leave new) c.commit_all.result second.1 c.commit_all.ensures.possible,
+      second.1,
     )

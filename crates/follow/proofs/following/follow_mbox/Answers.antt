@@ -1,13 +1,14 @@
-use Rattle.std.proofs.Common.{◌≡◌, ℕ, Some, None, Err, Ok, refl, ap, sym, subst}
+use Rattle.std.proofs.Common.{◌≡◌, ℕ, Some, refl, ap, sym, subst}
 use Rattle.std.proofs.lemmas.Result.{err_from_is_err_and}
 use Rattle.mboxrd.specs.Reading as mbox
 use Rattle.outside.specs.Moments.{LeavesOnly}
-use Rattle.follower.specs.Committing.{Prefix}
+use Rattle.state_store.specs.Commits.{fill_of}
+use Rattle.follower.specs.Committing.{Ends, Prefix, Stops, outset}
+use Rattle.follower.specs.Spending.{counts}
 use Rattle.follower.specs.Feed.{Feed, mails_feed, mails_left}
-use Rattle.follow.specs.Outcome.{TakesAll, changes, given_of, mbox_budget}
-use Rattle.follow.specs.Replies.{EndGoes}
+use Rattle.follow.specs.Outcome.{TakesAll, changes, given_of, mbox_budget, mbox_found}
 use Rattle.follow.specs.Statuses.{refusal_of}
-use Rattle.follow.proofs.Followed.{begin_leaves, begin_stops, fits_alone, follow_leaves, goes_to_end, halts_stop, own_state}
+use Rattle.follow.proofs.Followed.{begin_leaves, begin_stops, fits_alone, follow_leaves, following_spends, goes_to_end, halts_stop, opening_spends, own_state}
 use Rattle.follow.proofs.Replied.{cause_later, caused, some_left, took_all, took_more, took_within}
 use Rattle.follow.proofs.following.follow_mbox.Goals as goal
 
@@ -15,7 +16,7 @@ pub returns-in_err-follower-clause-goes : goal.returns-in_err-follower-clause-go
 returns-in_err-follower-clause-goes g c = λ bytes places next known seen gives.
     let H = g.H.Shelf in
     let p = err_from_is_err_and c.from_residual.result c.from_residual.ensures.1 in
-    let given = given_of c.args.me.now c.args.at bytes None places next in
+    let given = given_of c.args.me.now c.args.at (mbox_found bytes places next) in
     let began = c.in_err-follower.ensures.goes bytes places known seen in
     rw (p.1, p.2) (
       begin_leaves H.moment H.left_since (H.may_leave c.args.shelf.now) given c.args.shelf.now c.begin.new.shelf began.0,
@@ -28,7 +29,7 @@ returns-in_err-follow_mails_to_end-clause-goes g c = λ bytes places next known 
     let H = g.H.Shelf in
     let p = err_from_is_err_and c.from_residual-in_err-follow_mails_to_end.result c.from_residual-in_err-follow_mails_to_end.ensures.1 in
     let me = c.args.me.now in
-    let given = given_of me c.args.at bytes None places next in
+    let given = given_of me c.args.at (mbox_found bytes places next) in
     let f = c.in_ok-follower.follower in
     let s = f.keeper.state in
     let why = c.in_err-follow_mails_to_end.field-0.0 in
@@ -41,17 +42,17 @@ returns-in_err-follow_mails_to_end-clause-goes g c = λ bytes places next known 
     let feed : mails_feed s (mails_left s.position bytes) (Some c.moment_or_now-moment.result) ≡ changes given s =
     ap (λ (n : ℕ). mails_feed s (mails_left s.position bytes) (Some n)) (c.moment_or_now-moment.ensures.value next gives) in
     let leaves = subst (λ (x : Feed). LeavesOnly H.moment H.left_since mid new (Prefix s x)) feed went.0 in
-    let ends = subst (λ (x : Feed). EndGoes (Err why) s x c.follow_mails_to_end.new.follower (H.may_leave new)) feed went.1 in
+    let ends = subst (λ (x : Feed). Stops why (outset f.keeper (counts c.begin.new.steps (H.written mid))) x (counts c.follow_mails_to_end.new.steps (H.written new)) (H.may_leave new)) feed went.1 in
     rw (p.1, p.2) (
       follow_leaves H.moment H.left_since (H.may_leave old) given old mid new s b.stand_is began.0 leaves,
-      halts_stop given s b.stand_is (H.may_leave new) b.own (fits_alone given s b.own b.within refl) why c.in_err-follow_mails_to_end.ensures.possible ends,
+      halts_stop given s b.stand_is (H.may_leave new) b.own (fits_alone given s b.own b.within refl) why c.in_err-follow_mails_to_end.ensures.possible ends.halts,
     )
 
 pub returns-clause-goes : goal.returns-clause-goes
 returns-clause-goes g c = λ bytes places next known seen gives.
     let H = g.H.Shelf in
     let me = c.args.me.now in
-    let given = given_of me c.args.at bytes None places next in
+    let given = given_of me c.args.at (mbox_found bytes places next) in
     let f = c.in_ok-follower.follower in
     let s = f.keeper.state in
     let old = c.args.shelf.now in
@@ -63,10 +64,55 @@ returns-clause-goes g c = λ bytes places next known seen gives.
     let feed : mails_feed s (mails_left s.position bytes) (Some c.moment_or_now-moment.result) ≡ changes given s =
     ap (λ (n : ℕ). mails_feed s (mails_left s.position bytes) (Some n)) (c.moment_or_now-moment.ensures.value next gives) in
     let leaves = subst (λ (x : Feed). LeavesOnly H.moment H.left_since mid new (Prefix s x)) feed went.0 in
-    let ends = subst (λ (x : Feed). EndGoes (Ok tt) s x c.follow_mails_to_end.new.follower (H.may_leave new)) feed went.1 in (
+    let now = counts c.begin.new.steps (H.written mid) in
+    let later = counts c.follow_mails_to_end.new.steps (H.written new) in
+    let ends = subst (λ (x : Feed). Ends (outset f.keeper now) x c.follow_mails_to_end.new.follower.keeper later (H.may_leave new)) feed went.1 in (
       follow_leaves H.moment H.left_since (H.may_leave old) given old mid new s b.stand_is began.0 leaves,
-      goes_to_end given s b.stand_is (H.may_leave new) b.own (fits_alone given s b.own b.within refl) c.follow_mails_to_end.new.follower ends,
+      goes_to_end given s b.stand_is (H.may_leave new) b.own (fits_alone given s b.own b.within refl) c.follow_mails_to_end.new.follower (fill_of f.keeper.store) now later ends,
     )
+
+-- ---- what is read and written
+
+pub returns-in_err-follower-clause-spends : goal.returns-in_err-follower-clause-spends
+returns-in_err-follower-clause-spends g c = λ bytes places next known seen gives.
+    let written = g.H.Shelf.written in
+    let began = c.in_err-follower.ensures in
+    opening_spends (given_of c.args.me.now c.args.at (mbox_found bytes places next)) (counts c.args.steps.now (written c.args.shelf.now)) (counts c.begin.new.steps (written c.begin.new.shelf))
+    (began.cost places seen) began.written
+
+pub returns-in_err-follow_mails_to_end-clause-spends : goal.returns-in_err-follow_mails_to_end-clause-spends
+returns-in_err-follow_mails_to_end-clause-spends g c = λ bytes places next known seen gives.
+    let H = g.H.Shelf in
+    let given = given_of c.args.me.now c.args.at (mbox_found bytes places next) in
+    let f = c.in_ok-follower.follower in
+    let s = f.keeper.state in
+    let mid = c.begin.new.shelf in
+    let new = c.follow_mails_to_end.new.shelf in
+    let began = c.in_ok-follower.ensures in
+    let b = (began.goes bytes places known seen).1 in
+    let went = c.in_err-follow_mails_to_end.ensures.goes b.rest (mails_left s.position bytes) b.left_is (sym b.ahead) (own_state c.args.me.now s (H.seen mid) b.own b.known) in
+    let moment = c.moment_or_now-moment in
+    following_spends given s b.stand_is (counts c.args.steps.now (H.written c.args.shelf.now)) (counts c.begin.new.steps (H.written mid)) (began.cost places seen) began.written
+    (fill_of f.keeper.store) (mails_feed s (mails_left s.position bytes) (Some moment.result)) (counts c.follow_mails_to_end.new.steps (H.written new)) (fits_alone given s b.own b.within refl)
+    (began.fill places seen) (ap (λ (n : ℕ). mails_feed s (mails_left s.position bytes) (Some n)) (moment.ensures.value next gives)) went.1.spends
+
+pub returns-clause-spends : goal.returns-clause-spends
+returns-clause-spends g c = λ bytes places next known seen gives.
+    let H = g.H.Shelf in
+    let given = given_of c.args.me.now c.args.at (mbox_found bytes places next) in
+    let f = c.in_ok-follower.follower in
+    let s = f.keeper.state in
+    let mid = c.begin.new.shelf in
+    let new = c.follow_mails_to_end.new.shelf in
+    let began = c.in_ok-follower.ensures in
+    let b = (began.goes bytes places known seen).1 in
+    let went = c.in_ok-follow_mails_to_end.ensures.goes b.rest (mails_left s.position bytes) b.left_is (sym b.ahead) (own_state c.args.me.now s (H.seen mid) b.own b.known) in
+    let moment = c.moment_or_now-moment in
+    following_spends given s b.stand_is (counts c.args.steps.now (H.written c.args.shelf.now)) (counts c.begin.new.steps (H.written mid)) (began.cost places seen) began.written
+    (fill_of f.keeper.store) (mails_feed s (mails_left s.position bytes) (Some moment.result)) (counts c.follow_mails_to_end.new.steps (H.written new)) (fits_alone given s b.own b.within refl)
+    (began.fill places seen) (ap (λ (n : ℕ). mails_feed s (mails_left s.position bytes) (Some n)) (moment.ensures.value next gives)) went.1.spends
+
+-- ---- causes
 
 pub returns-in_err-follower-clause-cause : goal.returns-in_err-follower-clause-cause
 returns-in_err-follower-clause-cause g c =

@@ -1,18 +1,20 @@
-use Rattle.std.proofs.Common.{Some, refl, ap, sym, subst, ◌∙◌}
+use Rattle.std.proofs.Common.{refl, ap, sym, subst, ◌∙◌}
 use Rattle.std.proofs.lemmas.Result.{err_from_is_err_and}
 use Rattle.mboxrd.specs.Reading as mbox
 use Rattle.outside.specs.Causes.{Rose}
 use Rattle.outside.specs.Moments.{WhereKnown}
+use Rattle.state_store.specs.Commits.{fill_of}
 use Rattle.state_store.specs.Stored.{IsStored}
 use Rattle.steps_file.specs.Reading as steps
 use Rattle.follower.specs.Committing.{AllStand}
+use Rattle.follower.specs.Spending.{counts}
 use Rattle.keeper.specs.Keeping.{Keeping}
 use Rattle.state_store.specs.Stands.{stands}
 use Rattle.state_store.proofs.Appending.{is_settled}
-use Rattle.follow.specs.Outcome.{TakesAll, changes, given_of, mbox_budget, steps_budget}
+use Rattle.follow.specs.Outcome.{TakesAll, changes, given_of, mbox_budget, steps_budget, steps_found}
 use Rattle.follow.specs.Replies.{Took}
 use Rattle.follow.specs.Statuses.{refusal_of}
-use Rattle.follow.proofs.Followed.{begin_leaves, begin_stops, both_begun, follow_leaves, goes_to_end, halts_stop, lines_begun, lines_fail, own_state}
+use Rattle.follow.proofs.Followed.{begin_leaves, begin_stops, both_begun, follow_leaves, following_spends, goes_to_end, halts_stop, lines_begun, lines_fail, opening_spends, own_state}
 use Rattle.follow.proofs.Replied.{cause_on, cause_since_all, caused, mbox_took_on, steps_took_on, took_all, took_first, took_within}
 use Rattle.follow.proofs.following.follow_steps.Goals as goal
 
@@ -20,7 +22,7 @@ pub returns-in_err-follower-clause-goes : goal.returns-in_err-follower-clause-go
 returns-in_err-follower-clause-goes g c = λ bytes lines places next known told seen.
     let H = g.H.Shelf in
     let p = err_from_is_err_and c.from_residual.result c.from_residual.ensures.1 in
-    let given = given_of c.args.me.now c.args.at bytes (Some lines) places next in
+    let given = given_of c.args.me.now c.args.at (steps_found bytes lines places next) in
     let began = c.in_err-follower.ensures.goes bytes places known seen in
     rw (p.1, p.2) (
       begin_leaves H.moment H.left_since (H.may_leave c.args.shelf.now) given c.args.shelf.now c.begin.new.shelf began.0,
@@ -31,7 +33,7 @@ pub returns-in_err-start_lines-clause-goes : goal.returns-in_err-start_lines-cla
 returns-in_err-start_lines-clause-goes g c = λ bytes lines places next known told seen.
     let H = g.H.Shelf in
     let p = err_from_is_err_and c.from_residual-in_err-start_lines.result c.from_residual-in_err-start_lines.ensures.1 in
-    let given = given_of c.args.me.now c.args.at bytes (Some lines) places next in
+    let given = given_of c.args.me.now c.args.at (steps_found bytes lines places next) in
     let f = c.in_ok-follower.follower in
     let shelf = c.begin.new.shelf in
     let began = c.in_ok-follower.ensures.goes bytes places known seen in
@@ -50,7 +52,7 @@ returns-in_err-follow_lines_to_end-clause-goes g c = λ bytes lines places next 
     let H = g.H.Shelf in
     let p = err_from_is_err_and c.from_residual-in_err-follow_lines_to_end.result c.from_residual-in_err-follow_lines_to_end.ensures.1 in
     let me = c.args.me.now in
-    let given = given_of me c.args.at bytes (Some lines) places next in
+    let given = given_of me c.args.at (steps_found bytes lines places next) in
     let f = c.in_ok-follower.follower in
     let new = c.start_lines.new.self in
     let s = new.keeper.state in
@@ -65,14 +67,14 @@ returns-in_err-follow_lines_to_end-clause-goes g c = λ bytes lines places next 
     let went = c.in_err-follow_lines_to_end.ensures.goes began.1.rest l.rest (changes given s) began.1.left_is l.left_is b.changes_are b.known in
     rw (p.1, p.2) (
       follow_leaves H.moment H.left_since (H.may_leave old) given old mid after s b.stand_is began.0 went.0,
-      halts_stop given s b.stand_is (H.may_leave after) b.own b.fits why c.in_err-follow_lines_to_end.ensures.possible went.1,
+      halts_stop given s b.stand_is (H.may_leave after) b.own b.fits why c.in_err-follow_lines_to_end.ensures.possible went.1.halts,
     )
 
 pub returns-clause-goes : goal.returns-clause-goes
 returns-clause-goes g c = λ bytes lines places next known told seen.
     let H = g.H.Shelf in
     let me = c.args.me.now in
-    let given = given_of me c.args.at bytes (Some lines) places next in
+    let given = given_of me c.args.at (steps_found bytes lines places next) in
     let f = c.in_ok-follower.follower in
     let new = c.start_lines.new.self in
     let s = new.keeper.state in
@@ -85,8 +87,63 @@ returns-clause-goes g c = λ bytes lines places next known told seen.
     let b = both_begun me c.args.at bytes lines places next (g.M.Source.left c.begin.new.mbox) (g.S.Source.left c.start_lines.new.steps_file) (H.seen mid) f new began.1 l start.keeper start.mbox in
     let went = c.in_ok-follow_lines_to_end.ensures.goes began.1.rest l.rest (changes given s) began.1.left_is l.left_is b.changes_are b.known in (
       follow_leaves H.moment H.left_since (H.may_leave old) given old mid after s b.stand_is began.0 went.0,
-      goes_to_end given s b.stand_is (H.may_leave after) b.own b.fits c.follow_lines_to_end.new.follower went.1,
+      goes_to_end given s b.stand_is (H.may_leave after) b.own b.fits c.follow_lines_to_end.new.follower (fill_of new.keeper.store) (counts c.begin.new.steps (H.written mid))
+          (counts c.follow_lines_to_end.new.steps (H.written after)) went.1,
     )
+
+-- ---- what is read and written
+
+pub returns-in_err-follower-clause-spends : goal.returns-in_err-follower-clause-spends
+returns-in_err-follower-clause-spends g c = λ bytes lines places next known told seen.
+    let written = g.H.Shelf.written in
+    let began = c.in_err-follower.ensures in
+    opening_spends (given_of c.args.me.now c.args.at (steps_found bytes lines places next)) (counts c.args.steps.now (written c.args.shelf.now)) (counts c.begin.new.steps (written c.begin.new.shelf))
+    (began.cost places seen) began.written
+
+pub returns-in_err-start_lines-clause-spends : goal.returns-in_err-start_lines-clause-spends
+returns-in_err-start_lines-clause-spends g c = λ bytes lines places next known told seen.
+    let written = g.H.Shelf.written in
+    let began = c.in_ok-follower.ensures in
+    opening_spends (given_of c.args.me.now c.args.at (steps_found bytes lines places next)) (counts c.args.steps.now (written c.args.shelf.now)) (counts c.begin.new.steps (written c.begin.new.shelf))
+    (began.cost places seen) began.written
+
+pub returns-in_err-follow_lines_to_end-clause-spends : goal.returns-in_err-follow_lines_to_end-clause-spends
+returns-in_err-follow_lines_to_end-clause-spends g c = λ bytes lines places next known told seen.
+    let H = g.H.Shelf in
+    let me = c.args.me.now in
+    let given = given_of me c.args.at (steps_found bytes lines places next) in
+    let f = c.in_ok-follower.follower in
+    let new = c.start_lines.new.self in
+    let s = new.keeper.state in
+    let mid = c.begin.new.shelf in
+    let began = c.in_ok-follower.ensures in
+    let goes = began.goes bytes places known seen in
+    let start = c.in_ok-start_lines.ensures in
+    let l = lines_begun (g.S.Source.left c.args.steps_file.now) (g.S.Source.left c.start_lines.new.steps_file) lines f new told start.keeper start.starts in
+    let b = both_begun me c.args.at bytes lines places next (g.M.Source.left c.begin.new.mbox) (g.S.Source.left c.start_lines.new.steps_file) (H.seen mid) f new goes.1 l start.keeper start.mbox in
+    let went = c.in_err-follow_lines_to_end.ensures.goes goes.1.rest l.rest (changes given s) goes.1.left_is l.left_is b.changes_are b.known in
+    following_spends given s b.stand_is (counts c.args.steps.now (H.written c.args.shelf.now)) (counts c.begin.new.steps (H.written mid)) (began.cost places seen) began.written
+    (fill_of new.keeper.store) (changes given s) (counts c.follow_lines_to_end.new.steps (H.written c.follow_lines_to_end.new.shelf)) b.fits
+    (ap (λ (k : Keeping). fill_of k.store) start.keeper ∙ began.fill places seen) refl went.1.spends
+
+pub returns-clause-spends : goal.returns-clause-spends
+returns-clause-spends g c = λ bytes lines places next known told seen.
+    let H = g.H.Shelf in
+    let me = c.args.me.now in
+    let given = given_of me c.args.at (steps_found bytes lines places next) in
+    let f = c.in_ok-follower.follower in
+    let new = c.start_lines.new.self in
+    let s = new.keeper.state in
+    let mid = c.begin.new.shelf in
+    let began = c.in_ok-follower.ensures in
+    let goes = began.goes bytes places known seen in
+    let start = c.in_ok-start_lines.ensures in
+    let l = lines_begun (g.S.Source.left c.args.steps_file.now) (g.S.Source.left c.start_lines.new.steps_file) lines f new told start.keeper start.starts in
+    let b = both_begun me c.args.at bytes lines places next (g.M.Source.left c.begin.new.mbox) (g.S.Source.left c.start_lines.new.steps_file) (H.seen mid) f new goes.1 l start.keeper start.mbox in
+    let went = c.in_ok-follow_lines_to_end.ensures.goes goes.1.rest l.rest (changes given s) goes.1.left_is l.left_is b.changes_are b.known in
+    following_spends given s b.stand_is (counts c.args.steps.now (H.written c.args.shelf.now)) (counts c.begin.new.steps (H.written mid)) (began.cost places seen) began.written
+    (fill_of new.keeper.store) (changes given s) (counts c.follow_lines_to_end.new.steps (H.written c.follow_lines_to_end.new.shelf)) b.fits
+    (ap (λ (k : Keeping). fill_of k.store) start.keeper ∙ began.fill places seen) refl went.1.spends
 
 -- ---- causes, and the bytes that were taken
 

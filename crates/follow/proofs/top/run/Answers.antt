@@ -1,9 +1,9 @@
-use Rattle.std.proofs.Common.{◌≡◌, [], Some, refl, arith}
+use Rattle.std.proofs.Common.{[], Some, refl, arith}
 use Rattle.outside.specs.Causes.{Rose}
-use Rattle.follow.specs.Outcome.{CauseOf, TakesAll, early, mbox_budget, outcome, steps_budget}
+use Rattle.follow.specs.Outcome.{CauseOf, TakesAll, follows, mbox_budget, outcome, steps_budget}
 use Rattle.follow.specs.Words.{request}
 use Rattle.follow.specs.declared.status.Refusal.{Refusal}
-use Rattle.follow.proofs.Refused.{answered, not_all, not_all_steps, not_disk, not_endless, not_read, second}
+use Rattle.follow.proofs.Refused.{answered, not_all, not_all_steps, not_disk, not_endless, not_endless_at, not_read}
 use Rattle.follow.proofs.WordReadings.{comes_unwritten}
 use Rattle.follow.proofs.top.run.Goals as goal
 
@@ -19,7 +19,7 @@ pub returns-in-Some-clause-line : goal.returns-in-Some-clause-line
 returns-in-Some-clause-line g c = rw c.in-Some.is c.run_given.ensures.line
 
 pub returns-in-Some-clause-complete : goal.returns-in-Some-clause-complete
-returns-in-Some-clause-complete g c = rw c.in-Some.is (λ bytes text lines places next known told seen gives is few few_steps no_mbox no_out no_shelf no_steps.
+returns-in-Some-clause-complete g c = rw c.in-Some.is (λ found text told is few few_steps no_mbox no_out no_shelf no_steps.
     let ran = c.run_given.ensures in
     let old = g.K.Sink.held c.args.out.now in
     let new = g.K.Sink.held c.run_given.new.out in
@@ -30,15 +30,15 @@ returns-in-Some-clause-complete g c = rw c.in-Some.is (λ bytes text lines place
     let rose = Rose (g.K.Sink.faults c.args.out.now) (g.K.Sink.faults c.run_given.new.out) in
     let cause : Refusal → Type 0 = CauseOf (Rose (g.M.Source.faults c.args.mbox.now) (g.M.Source.faults c.run_given.new.mbox)) (Rose (g.S.Source.faults c.in-Some.steps_file.now) (g.S.Source.faults c.run_given.new.steps_file))
     (Rose (g.H.Shelf.faults c.args.shelf.now) (g.H.Shelf.faults c.run_given.new.shelf)) (TakesAll mbox_left mbox_after mbox_budget) (TakesAll steps_left steps_after steps_budget) in
-    answered old new (outcome c.args.words.now bytes lines places next) text c.run_given.result is (ran.status bytes lines places next known told seen gives) (ran.answer bytes lines places next known told seen gives)
+    answered old new (outcome c.args.words.now found) text c.run_given.result is (ran.status found told) (ran.answer found told)
     (not_read old new cause rose c.run_given.result ran.line no_mbox no_steps)
-    (not_endless old new cause rose c.run_given.result ran.line (not_all mbox_left mbox_after bytes mbox_budget known few) (not_all_steps steps_left steps_after lines steps_budget told few_steps))
+    (not_endless_at (follows (request c.args.words.now)) c.run_given.result (λ yes. not_endless old new cause rose c.run_given.result ran.line
+    (not_all mbox_left mbox_after found.mbox mbox_budget (told yes).mbox_is few) (not_all_steps steps_left steps_after found.steps steps_budget (told yes).steps_is few_steps)) ran.bare)
     (not_disk old new cause rose c.run_given.result ran.line no_shelf)
     (λ written. no_out (ran.write written)))
 
 pub returns-in-Some-clause-steps_untouched : goal.returns-in-Some-clause-steps_untouched
-returns-in-Some-clause-steps_untouched g c = rw c.in-Some.is
-    (second (early (request c.args.words.now)) (c.run_given.new.mbox ≡ c.args.mbox.now) (c.run_given.new.steps_file ≡ c.in-Some.steps_file.now) (c.run_given.new.shelf ≡ c.args.shelf.now) c.run_given.ensures.untouched)
+returns-in-Some-clause-steps_untouched g c = rw c.in-Some.is (λ bare. (c.run_given.ensures.untouched bare).1)
 
 pub returns-in-Some-clause-steps_took : goal.returns-in-Some-clause-steps_took
 returns-in-Some-clause-steps_took g c = rw c.in-Some.is c.run_given.ensures.steps_took
@@ -52,7 +52,7 @@ pub returns-in-None-clause-status : goal.returns-in-None-clause-status
 returns-in-None-clause-status g c = rw c.in-None.is c.run_given-in-None.ensures.status
 
 pub returns-in-None-clause-complete : goal.returns-in-None-clause-complete
-returns-in-None-clause-complete g c = rw c.in-None.is (λ bytes text lines places next known told seen gives is few few_steps no_mbox no_out no_shelf no_steps.
+returns-in-None-clause-complete g c = rw c.in-None.is (λ found text told is few few_steps no_mbox no_out no_shelf no_steps.
     let ran = c.run_given-in-None.ensures in
     let old = g.K.Sink.held c.args.out.now in
     let new = g.K.Sink.held c.run_given-in-None.new.out in
@@ -61,11 +61,25 @@ returns-in-None-clause-complete g c = rw c.in-None.is (λ bytes text lines place
     let rose = Rose (g.K.Sink.faults c.args.out.now) (g.K.Sink.faults c.run_given-in-None.new.out) in
     let cause : Refusal → Type 0 = CauseOf (Rose (g.M.Source.faults c.args.mbox.now) (g.M.Source.faults c.run_given-in-None.new.mbox)) (Rose 0 0)
     (Rose (g.H.Shelf.faults c.args.shelf.now) (g.H.Shelf.faults c.run_given-in-None.new.shelf)) (TakesAll mbox_left mbox_after mbox_budget) (TakesAll (Some []) (Some []) steps_budget) in
-    answered old new (outcome c.args.words.now bytes lines places next) text c.run_given-in-None.result is (ran.status bytes lines places next known told seen gives) (ran.answer bytes lines places next known told seen gives)
+    answered old new (outcome c.args.words.now found) text c.run_given-in-None.result is (ran.status found told) (ran.answer found told)
     (not_read old new cause rose c.run_given-in-None.result ran.line no_mbox (λ none. absurd (omega (arith, none))))
-    (not_endless old new cause rose c.run_given-in-None.result ran.line (not_all mbox_left mbox_after bytes mbox_budget known few) (not_all (Some []) (Some []) [] steps_budget refl (omega (arith))))
+    (not_endless_at (follows (request c.args.words.now)) c.run_given-in-None.result (λ yes. not_endless old new cause rose c.run_given-in-None.result ran.line
+    (not_all mbox_left mbox_after found.mbox mbox_budget (told yes).mbox_is few) (not_all (Some []) (Some []) [] steps_budget refl (omega (arith)))) ran.bare)
     (not_disk old new cause rose c.run_given-in-None.result ran.line no_shelf)
     (λ written. no_out (ran.write written)))
+
+-- ---- what is put
+
+pub returns-in-Some-clause-answer : goal.returns-in-Some-clause-answer
+returns-in-Some-clause-answer g c = rw c.in-Some.is c.run_given.ensures.answer
+
+-- ---- what is kept
+
+pub returns-in-Some-clause-lasting : goal.returns-in-Some-clause-lasting
+returns-in-Some-clause-lasting g c = rw c.in-Some.is c.run_given.ensures.lasting
+
+pub returns-in-None-clause-lasting : goal.returns-in-None-clause-lasting
+returns-in-None-clause-lasting g c = rw c.in-None.is c.run_given-in-None.ensures.lasting
 
 -- ---- what a crash may leave
 
@@ -74,3 +88,11 @@ returns-in-Some-clause-crash g c = rw c.in-Some.is c.run_given.ensures.crash
 
 pub returns-in-None-clause-crash : goal.returns-in-None-clause-crash
 returns-in-None-clause-crash g c = rw c.in-None.is c.run_given-in-None.ensures.crash
+
+-- ---- what is read and written
+
+pub returns-in-Some-clause-cost : goal.returns-in-Some-clause-cost
+returns-in-Some-clause-cost g c = rw c.in-Some.is c.run_given.ensures.cost
+
+pub returns-in-None-clause-cost : goal.returns-in-None-clause-cost
+returns-in-None-clause-cost g c = rw c.in-None.is c.run_given-in-None.ensures.cost

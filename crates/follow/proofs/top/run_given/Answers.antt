@@ -1,12 +1,13 @@
-use Rattle.std.proofs.Common.{rules, ◌≡◌, ◌⊎◌, subst}
+use Rattle.std.proofs.Common.{rules, ◌≡◌, ◌⊎◌, Err, subst}
 use Rattle.outside.specs.Causes.{Rose}
 use Rattle.follow.specs.Outcome.{CauseOf, LastIf, PutsWhole, TakesAll, given_in, mbox_budget, outcome, steps_budget}
+use Rattle.follow.specs.Replies.{Puts}
 use Rattle.follow.specs.Statuses.{line_of, status_of}
 use Rattle.follow.specs.Words.{request}
 use Rattle.follow.specs.declared.status.Refusal.{Refusal}
 use Rattle.follow.specs.declared.status.Refusal.TheVariants as refusal
 use Rattle.follow.proofs.Clocks.{AsksClock-weaker}
-use Rattle.follow.proofs.Refused.{agrees_refused, last_said, not_memory, puts_refused, refused_line, said_memory}
+use Rattle.follow.proofs.Refused.{agrees_ok, agrees_refused, agrees_write, bare_said, last_said, not_memory, puts_ok, puts_refused, puts_write, refused_line, said_memory}
 use Rattle.follow.proofs.top.run_given.Goals as goal
 
 pub returns-in-Ok-clause-clock : goal.returns-in-Ok-clause-clock
@@ -17,15 +18,42 @@ returns-in-Err-clause-clock g c =
     let is : c.in-Err.why ≡ refusal.Write = search rules in
     AsksClock-weaker _ _ _ _ _ _ (λ memory. absurd (not_memory c.in-Err.why is memory)) c.in-Err.ensures.clock
 
+pub returns-in-Ok-clause-status : goal.returns-in-Ok-clause-status
+returns-in-Ok-clause-status g c = λ found told.
+    agrees_ok (outcome c.args.words.now found) (g.K.Sink.held c.args.out.now) (g.K.Sink.held c.reply.new.out) (c.in-Ok.ensures.puts found told)
+
+pub returns-in-Ok-clause-answer : goal.returns-in-Ok-clause-answer
+returns-in-Ok-clause-answer g c = λ found told.
+    puts_ok (outcome c.args.words.now found) (g.K.Sink.held c.args.out.now) (g.K.Sink.held c.reply.new.out) (c.in-Ok.ensures.puts found told)
+
+pub returns-in-Ok-clause-lasting : goal.returns-in-Ok-clause-lasting
+returns-in-Ok-clause-lasting g c = c.in-Ok.ensures.lasting
+
+pub returns-in-Err-clause-status : goal.returns-in-Err-clause-status
+returns-in-Err-clause-status g c = λ found told.
+    let is : c.in-Err.why ≡ refusal.Write = search rules in
+    let old = g.K.Sink.held c.args.out.now in
+    let new = g.K.Sink.held c.reply.new.out in
+    agrees_write (outcome c.args.words.now found) old new
+    (subst (λ (why : Refusal). Puts (outcome c.args.words.now found) old new (Err why)) is (c.in-Err.ensures.puts found told))
+
+pub returns-in-Err-clause-answer : goal.returns-in-Err-clause-answer
+returns-in-Err-clause-answer g c = λ found told.
+    let is : c.in-Err.why ≡ refusal.Write = search rules in
+    let old = g.K.Sink.held c.args.out.now in
+    let new = g.K.Sink.held c.reply.new.out in
+    puts_write (outcome c.args.words.now found) old new
+    (subst (λ (why : Refusal). Puts (outcome c.args.words.now found) old new (Err why)) is (c.in-Err.ensures.puts found told))
+
 pub returns-in-Err-2-clause-status : goal.returns-in-Err-2-clause-status
-returns-in-Err-2-clause-status g c = λ bytes lines places next known told seen gives.
-    agrees_refused (outcome c.args.words.now bytes lines places next) (g.K.Sink.held c.args.out.now) (g.K.Sink.held c.reply.new.out) c.in-Err.why c.refuse.result
-    (c.in-Err.ensures.puts bytes lines places next known told seen gives) c.refuse.ensures.status
+returns-in-Err-2-clause-status g c = λ found told.
+    agrees_refused (outcome c.args.words.now found) (g.K.Sink.held c.args.out.now) (g.K.Sink.held c.reply.new.out) c.in-Err.why c.refuse.result
+    (c.in-Err.ensures.puts found told) c.refuse.ensures.status
 
 pub returns-in-Err-2-clause-answer : goal.returns-in-Err-2-clause-answer
-returns-in-Err-2-clause-answer g c = λ bytes lines places next known told seen gives.
+returns-in-Err-2-clause-answer g c = λ found told.
     let other : c.in-Err.why ≡ refusal.Write → ⊥ = search rules in
-    puts_refused (outcome c.args.words.now bytes lines places next) (g.K.Sink.held c.args.out.now) (g.K.Sink.held c.refuse.new.out) c.in-Err.why c.refuse.result other c.refuse.ensures.status
+    puts_refused (outcome c.args.words.now found) (g.K.Sink.held c.args.out.now) (g.K.Sink.held c.refuse.new.out) c.in-Err.why c.refuse.result other c.refuse.ensures.status
 
 pub returns-in-Err-2-clause-line : goal.returns-in-Err-2-clause-line
 returns-in-Err-2-clause-line g c =
@@ -43,12 +71,17 @@ returns-in-Err-2-clause-clock g c = AsksClock-weaker _ _ _ _ _ _ (λ memory. sai
 -- ---- what is kept
 
 pub returns-in-Err-clause-lasting : goal.returns-in-Err-clause-lasting
-returns-in-Err-clause-lasting g c = λ bytes lines places next known told seen gives.
+returns-in-Err-clause-lasting g c = λ found told.
     let is : c.in-Err.why ≡ refusal.Write = search rules in
-    let o = given_in (request c.args.words.now) bytes lines places next in
-    subst (λ (why : Refusal). LastIf o (status_of why) (g.H.Shelf.may_leave c.reply.new.shelf)) is (c.in-Err.ensures.lasting bytes lines places next known told seen gives)
+    let o = given_in (request c.args.words.now) found in
+    subst (λ (why : Refusal). LastIf o (status_of why) (g.H.Shelf.may_leave c.reply.new.shelf)) is (c.in-Err.ensures.lasting found told)
 
 pub returns-in-Err-2-clause-lasting : goal.returns-in-Err-2-clause-lasting
-returns-in-Err-2-clause-lasting g c = λ bytes lines places next known told seen gives.
-    last_said (given_in (request c.args.words.now) bytes lines places next) (g.H.Shelf.may_leave c.reply.new.shelf) c.in-Err.why c.refuse.result c.refuse.ensures.status
-    (c.in-Err.ensures.lasting bytes lines places next known told seen gives)
+returns-in-Err-2-clause-lasting g c = λ found told.
+    last_said (given_in (request c.args.words.now) found) (g.H.Shelf.may_leave c.reply.new.shelf) c.in-Err.why c.refuse.result c.refuse.ensures.status
+    (c.in-Err.ensures.lasting found told)
+
+-- ---- a run that follows no files
+
+pub returns-in-Err-2-clause-bare : goal.returns-in-Err-2-clause-bare
+returns-in-Err-2-clause-bare g c = λ bare. bare_said c.in-Err.why c.refuse.result c.refuse.ensures.status (c.in-Err.ensures.bare bare)

@@ -2,6 +2,7 @@ use Rattle.std.proofs.lemmas.Result.{err_from_is_err_and}
 use Rattle.std.proofs.Common.{arith}
 use Rattle.outside.proofs.Moments.{and_then}
 use Rattle.follower.specs.Committing.{LinesToCome, Prefix}
+use Rattle.follower.specs.Spending.{counts}
 use Rattle.follower.proofs.Going.{mbox_takes, mbox_takes_none, steps_takes, steps_takes_none}
 use Rattle.follower.proofs.Rounds.{applied, ended, nothing_leaves}
 use Rattle.follower.proofs.turns.follow_lines.Goals as goal
@@ -35,8 +36,8 @@ loop-preserved g c =
       goes = λ last start feed on.
           let first = past.goes last start feed on in
           let second = round.goes last start feed first.1 in (
-            and_then H.moment H.left_since c.args.shelf.now c.loop.shelf new.shelf (Prefix start feed) (Prefix start feed) (Prefix start feed) first.0 second.0 (λ _ p. p) (λ _ p. p),
-            applied start feed (H.may_leave new.shelf) (H.seen new.shelf) last (LinesToCome last new.follower (mails new.mbox) (left new.steps_file)) new.follower.keeper
+            and_then H.moment H.left_since c.args.shelf.now c.loop.shelf new.shelf (Prefix start.state feed) (Prefix start.state feed) (Prefix start.state feed) first.0 second.0 (λ _ p. p) (λ _ p. p),
+            applied start feed (counts new.steps (H.written new.shelf)) (H.may_leave new.shelf) (H.seen new.shelf) last (LinesToCome last new.follower (mails new.mbox) (left new.steps_file)) new.follower.keeper
                 c.in_ok-round_of_line.field-0 c.in-Applied.is second.1,
           );
     }
@@ -56,7 +57,7 @@ returns-in_err-round_of_line-clause-goes g c = λ last start feed on.
     let first = c.loop.invariant.goes last start feed on in
     let second = c.in_err-round_of_line.ensures.goes last start feed first.1 in
     rw (p.1, p.2) (
-      and_then H.moment H.left_since c.args.shelf.now c.loop.shelf c.round_of_line.new.shelf (Prefix start feed) (Prefix start feed) (Prefix start feed) first.0 second.0 (λ _ p. p) (λ _ p. p),
+      and_then H.moment H.left_since c.args.shelf.now c.loop.shelf c.round_of_line.new.shelf (Prefix start.state feed) (Prefix start.state feed) (Prefix start.state feed) first.0 second.0 (λ _ p. p) (λ _ p. p),
       second.1,
     )
 
@@ -66,8 +67,8 @@ returns-in-End-clause-goes g c = λ last start feed on.
     let new = c.round_of_line.new in
     let first = c.loop.invariant.goes last start feed on in
     let second = c.in_ok-round_of_line.ensures.goes last start feed first.1 in (
-      and_then H.moment H.left_since c.args.shelf.now c.loop.shelf new.shelf (Prefix start feed) (Prefix start feed) (Prefix start feed) first.0 second.0 (λ _ p. p) (λ _ p. p),
-      ended start feed (H.may_leave new.shelf) (H.seen new.shelf) last (LinesToCome last new.follower (g.M.Source.left new.mbox) (g.S.Source.left new.steps_file)) new.follower.keeper
+      and_then H.moment H.left_since c.args.shelf.now c.loop.shelf new.shelf (Prefix start.state feed) (Prefix start.state feed) (Prefix start.state feed) first.0 second.0 (λ _ p. p) (λ _ p. p),
+      ended start feed (counts new.steps (H.written new.shelf)) (H.may_leave new.shelf) (H.seen new.shelf) last (LinesToCome last new.follower (g.M.Source.left new.mbox) (g.S.Source.left new.steps_file)) new.follower.keeper
           c.in_ok-round_of_line.field-0 c.in-End.is second.1,
     )
 
@@ -86,7 +87,7 @@ loop-init g c =
       mbox_took = mbox_takes_none (g.M.Source.left c.args.mbox.now) c.args.follower.now.mbox;
       steps_took = steps_takes_none (g.S.Source.left c.args.steps_file.now) c.args.follower.now.lines;
       goes = λ last start feed on. (
-        nothing_leaves H.moment H.left_since H.seen H.may_leave start feed on.others c.args.follower.now.keeper shelf (g.met.H.Shelf.only_now shelf) on.known c.requires.stored,
+        nothing_leaves H.moment H.left_since H.seen H.may_leave start feed on.others c.args.follower.now.keeper (counts c.args.steps.now (H.written shelf)) shelf (g.met.H.Shelf.only_now shelf) on.known c.requires.stored,
         on,
       );
     }

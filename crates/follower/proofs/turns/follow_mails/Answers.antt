@@ -2,6 +2,7 @@ use Rattle.std.proofs.Common.{None, arith, refl, ◌∙◌}
 use Rattle.std.proofs.lemmas.Result.{err_from_is_err_and}
 use Rattle.outside.proofs.Moments.{and_then}
 use Rattle.follower.specs.Committing.{MailsToCome, Prefix}
+use Rattle.follower.specs.Spending.{counts}
 use Rattle.follower.proofs.Going.{mbox_takes, mbox_takes_none}
 use Rattle.follower.proofs.Rounds.{applied, ended, nothing_leaves}
 use Rattle.follower.proofs.turns.follow_mails.Goals as goal
@@ -27,8 +28,8 @@ loop-preserved g c =
       goes = λ start feed on.
           let first = past.goes start feed on in
           let second = round.goes start feed first.1 in (
-            and_then H.moment H.left_since c.args.shelf.now c.loop.shelf new.shelf (Prefix start feed) (Prefix start feed) (Prefix start feed) first.0 second.0 (λ _ p. p) (λ _ p. p),
-            applied start feed (H.may_leave new.shelf) (H.seen new.shelf) None (MailsToCome new.follower (g.M.Source.left new.mbox)) new.follower.keeper c.in_ok-round_of_mail.field-0 c.in-Applied.is second.1,
+            and_then H.moment H.left_since c.args.shelf.now c.loop.shelf new.shelf (Prefix start.state feed) (Prefix start.state feed) (Prefix start.state feed) first.0 second.0 (λ _ p. p) (λ _ p. p),
+            applied start feed (counts new.steps (H.written new.shelf)) (H.may_leave new.shelf) (H.seen new.shelf) None (MailsToCome new.follower (g.M.Source.left new.mbox)) new.follower.keeper c.in_ok-round_of_mail.field-0 c.in-Applied.is second.1,
           );
     }
 
@@ -43,7 +44,7 @@ returns-in_err-round_of_mail-clause-goes g c = λ start feed on.
     let first = c.loop.invariant.goes start feed on in
     let second = c.in_err-round_of_mail.ensures.goes start feed first.1 in
     rw (p.1, p.2) (
-      and_then H.moment H.left_since c.args.shelf.now c.loop.shelf c.round_of_mail.new.shelf (Prefix start feed) (Prefix start feed) (Prefix start feed) first.0 second.0 (λ _ p. p) (λ _ p. p),
+      and_then H.moment H.left_since c.args.shelf.now c.loop.shelf c.round_of_mail.new.shelf (Prefix start.state feed) (Prefix start.state feed) (Prefix start.state feed) first.0 second.0 (λ _ p. p) (λ _ p. p),
       second.1,
     )
 
@@ -53,8 +54,8 @@ returns-in-End-clause-goes g c = λ start feed on.
     let new = c.round_of_mail.new in
     let first = c.loop.invariant.goes start feed on in
     let second = c.in_ok-round_of_mail.ensures.goes start feed first.1 in (
-      and_then H.moment H.left_since c.args.shelf.now c.loop.shelf new.shelf (Prefix start feed) (Prefix start feed) (Prefix start feed) first.0 second.0 (λ _ p. p) (λ _ p. p),
-      ended start feed (H.may_leave new.shelf) (H.seen new.shelf) None (MailsToCome new.follower (g.M.Source.left new.mbox)) new.follower.keeper c.in_ok-round_of_mail.field-0 c.in-End.is second.1,
+      and_then H.moment H.left_since c.args.shelf.now c.loop.shelf new.shelf (Prefix start.state feed) (Prefix start.state feed) (Prefix start.state feed) first.0 second.0 (λ _ p. p) (λ _ p. p),
+      ended start feed (counts new.steps (H.written new.shelf)) (H.may_leave new.shelf) (H.seen new.shelf) None (MailsToCome new.follower (g.M.Source.left new.mbox)) new.follower.keeper c.in_ok-round_of_mail.field-0 c.in-End.is second.1,
     )
 
 pub loop-init : goal.loop-init
@@ -70,7 +71,7 @@ loop-init g c =
       shelf_later = omega arith;
       took = mbox_takes_none (g.M.Source.left c.args.mbox.now) c.args.follower.now.mbox;
       goes = λ start feed on. (
-        nothing_leaves H.moment H.left_since H.seen H.may_leave start feed on.others c.args.follower.now.keeper shelf (g.met.H.Shelf.only_now shelf) on.known c.requires.stored,
+        nothing_leaves H.moment H.left_since H.seen H.may_leave start feed on.others c.args.follower.now.keeper (counts c.args.steps.now (H.written shelf)) shelf (g.met.H.Shelf.only_now shelf) on.known c.requires.stored,
         on,
       );
     }

@@ -1,10 +1,10 @@
 use Rattle.std.proofs.Common.{◌≡◌, ◌≤◌, ◌-◌, ℕ, List, false}
 use Rattle.mboxrd.specs.Reading as mbox_reading
 use Rattle.outside.specs.Moments.{LeavesOnly, WhereKnown}
-use Rattle.state_store.specs.States.{State}
 use Rattle.state_store.specs.Stored.{IsStored}
 use Rattle.keeper.specs.Keeping.{IsKept, max_changes}
-use Rattle.follower.specs.Committing.{MailsToCome, OnWay, Prefix}
+use Rattle.follower.specs.Committing.{MailsToCome, OnWay, Outset, Prefix}
+use Rattle.follower.specs.Spending.{counts}
 use Rattle.follower.specs.Feed.{Feed}
 use Rattle.follower.proofs.turns.follow_mails.Given as goal
 
@@ -18,9 +18,11 @@ invariant-loop g l = record {
   later : g.M.Source.faults l.fn.mbox ≤ g.M.Source.faults l.mbox;
   shelf_later : g.H.Shelf.faults l.fn.shelf ≤ g.H.Shelf.faults l.shelf;
   took : (bytes : List ℕ) × mbox_reading.Takes (g.M.Source.left l.fn.mbox) (g.M.Source.left l.mbox) l.fn.follower.mbox l.follower.mbox bytes;
-  goes : (start : State) (feed : Feed) → OnWay start feed (MailsToCome l.fn.follower (g.M.Source.left l.fn.mbox)) l.fn.follower.keeper (g.H.Shelf.seen l.fn.shelf)
-      → LeavesOnly g.H.Shelf.moment g.H.Shelf.left_since l.fn.shelf l.shelf (Prefix start feed)
-      × OnWay start feed (MailsToCome l.follower (g.M.Source.left l.mbox)) l.follower.keeper (g.H.Shelf.seen l.shelf);
+  goes : (start : Outset) (feed : Feed) → OnWay start feed (MailsToCome l.fn.follower (g.M.Source.left l.fn.mbox)) l.fn.follower.keeper
+      (counts l.fn.steps (g.H.Shelf.written l.fn.shelf)) (g.H.Shelf.seen l.fn.shelf)
+      → LeavesOnly g.H.Shelf.moment g.H.Shelf.left_since l.fn.shelf l.shelf (Prefix start.state feed)
+      × OnWay start feed (MailsToCome l.follower (g.M.Source.left l.mbox)) l.follower.keeper
+      (counts l.steps (g.H.Shelf.written l.shelf)) (g.H.Shelf.seen l.shelf);
 }
 
 abbrev pub decreases-loop : goal.decreases-loop

@@ -1,6 +1,8 @@
+use Rattle.std.proofs.Common.{ℕ, sym, subst}
 use Rattle.std.proofs.lemmas.Result.{err_from_is_err_and}
-use Rattle.follower.specs.Committing.{LinesToCome}
-use Rattle.follower.proofs.Rounds.{free_halt, line_turn, lines_same, round_goes, still_stored}
+use Rattle.follower.specs.Committing.{LinesToCome, RoundGoes}
+use Rattle.follower.specs.Spending.{counts}
+use Rattle.follower.proofs.Rounds.{free_stop, line_turn, lines_same, round_goes, still_stored}
 use Rattle.follower.proofs.turns.round_of_line.Goals as goal
 
 pub returns-in_err-commit_if_full-clause-goes : goal.returns-in_err-commit_if_full-clause-goes
@@ -9,7 +11,7 @@ returns-in_err-commit_if_full-clause-goes g c = λ last start feed on.
     let p = err_from_is_err_and c.from_residual.result c.from_residual.ensures.1 in
     let shelf = c.commit_if_full.new.shelf in
     let done = c.in_err-commit_if_full.ensures.goes start feed on.others on.known in
-    rw (p.1, p.2) (done.0, free_halt start feed (H.may_leave shelf) (H.seen shelf) c.in_err-commit_if_full.field-0.0 c.in_err-commit_if_full.ensures.possible)
+    rw (p.1, p.2) (done.0, free_stop start feed (counts c.commit_if_full.new.steps (H.written shelf)) (H.may_leave shelf) (H.seen shelf) c.in_err-commit_if_full.field-0.0 c.in_err-commit_if_full.ensures.possible done.1)
 
 pub returns-clause-goes : goal.returns-clause-goes
 returns-clause-goes g c = λ last start feed on.
@@ -25,8 +27,10 @@ returns-clause-goes g c = λ last start feed on.
     let turn = line_turn (mails c.args.mbox.now) (mails c.turn_line.new.mbox) (left c.args.steps_file.now) (left c.turn_line.new.steps_file) last mid new c.turn_line.result on.others
     (c.turn_line.ensures.goes last) comes in (
       way.0,
-      round_goes start feed (H.may_leave shelf) (H.seen shelf) last (LinesToCome last new (mails c.turn_line.new.mbox) (left c.turn_line.new.steps_file)) mid new on.others turn.0 c.turn_line.result
-          way.1 turn.1 turn.2 c.turn_line.ensures.adds committed.few committed.stored,
+      subst (λ (n : ℕ). RoundGoes last c.turn_line.result start feed (LinesToCome last new (mails c.turn_line.new.mbox) (left c.turn_line.new.steps_file)) new.keeper (counts n (H.written shelf)) (H.seen shelf) (H.may_leave shelf))
+          (sym c.turn_line.ensures.cost)
+          (round_goes start feed (counts c.commit_if_full.new.steps (H.written shelf)) (H.may_leave shelf) (H.seen shelf) last (LinesToCome last new (mails c.turn_line.new.mbox) (left c.turn_line.new.steps_file)) mid new
+          on.others turn.0 c.turn_line.result way.1 turn.1 turn.2 c.turn_line.ensures.adds c.turn_line.ensures.store committed.few committed.stored),
     )
 
 pub returns-clause-stored : goal.returns-clause-stored

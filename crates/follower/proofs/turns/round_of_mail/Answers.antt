@@ -1,7 +1,8 @@
-use Rattle.std.proofs.Common.{None}
+use Rattle.std.proofs.Common.{ℕ, None, sym, subst}
 use Rattle.std.proofs.lemmas.Result.{err_from_is_err_and}
-use Rattle.follower.specs.Committing.{MailsToCome}
-use Rattle.follower.proofs.Rounds.{free_halt, mail_turn, mails_same, round_goes, still_stored}
+use Rattle.follower.specs.Committing.{MailsToCome, RoundGoes}
+use Rattle.follower.specs.Spending.{counts}
+use Rattle.follower.proofs.Rounds.{free_stop, mail_turn, mails_same, round_goes, still_stored}
 use Rattle.follower.proofs.turns.round_of_mail.Goals as goal
 
 pub returns-in_err-commit_if_full-clause-goes : goal.returns-in_err-commit_if_full-clause-goes
@@ -10,7 +11,7 @@ returns-in_err-commit_if_full-clause-goes g c = λ start feed on.
     let p = err_from_is_err_and c.from_residual.result c.from_residual.ensures.1 in
     let shelf = c.commit_if_full.new.shelf in
     let done = c.in_err-commit_if_full.ensures.goes start feed on.others on.known in
-    rw (p.1, p.2) (done.0, free_halt start feed (H.may_leave shelf) (H.seen shelf) c.in_err-commit_if_full.field-0.0 c.in_err-commit_if_full.ensures.possible)
+    rw (p.1, p.2) (done.0, free_stop start feed (counts c.commit_if_full.new.steps (H.written shelf)) (H.may_leave shelf) (H.seen shelf) c.in_err-commit_if_full.field-0.0 c.in_err-commit_if_full.ensures.possible done.1)
 
 pub returns-clause-goes : goal.returns-clause-goes
 returns-clause-goes g c = λ start feed on.
@@ -24,8 +25,9 @@ returns-clause-goes g c = λ start feed on.
     let comes = mails_same (left c.args.mbox.now) c.args.follower.now mid on.others committed.state committed.mbox on.to_come in
     let turn = mail_turn (left c.args.mbox.now) (left c.turn_mail.new.mbox) mid new c.turn_mail.result on.others c.turn_mail.ensures.goes comes in (
       way.0,
-      round_goes start feed (H.may_leave shelf) (H.seen shelf) None (MailsToCome new (left c.turn_mail.new.mbox)) mid new on.others turn.0 c.turn_mail.result way.1 turn.1 turn.2
-          c.turn_mail.ensures.adds committed.few committed.stored,
+      subst (λ (n : ℕ). RoundGoes None c.turn_mail.result start feed (MailsToCome new (left c.turn_mail.new.mbox)) new.keeper (counts n (H.written shelf)) (H.seen shelf) (H.may_leave shelf)) (sym c.turn_mail.ensures.cost)
+          (round_goes start feed (counts c.commit_if_full.new.steps (H.written shelf)) (H.may_leave shelf) (H.seen shelf) None (MailsToCome new (left c.turn_mail.new.mbox)) mid new on.others turn.0 c.turn_mail.result
+          way.1 turn.1 turn.2 c.turn_mail.ensures.adds c.turn_mail.ensures.store committed.few committed.stored),
     )
 
 pub returns-clause-stored : goal.returns-clause-stored

@@ -1,6 +1,7 @@
 use Rattle.std.proofs.lemmas.Result.{err_from_is_err_and}
 use Rattle.std.proofs.Common.{◌≡◌, ◌+◌, ℕ, List, Err, true, false, ap, subst, sym, ◌∙◌}
 use Rattle.keeper.specs.Keeping.{after_change, is_refused}
+use Rattle.keeper.specs.Pending.{with_change}
 use Rattle.mboxrd.specs.Reading as mbox_reading
 use Rattle.follower.specs.Feed.{counted}
 use Rattle.follower.specs.Following.{Following}
@@ -54,6 +55,7 @@ returns-clause-goes g c = λ last.
     let new : Following = record { keeper = c.apply.new.self; mbox = c.self-2.inside.mbox; lines = c.self-2.inside.lines; failed = false } in
     let room = subst (λ (f : Following). is_refused f.keeper.state change ≡ false) c.self-2.view_is c.in_ok-apply.ensures.room in
     let state = c.in_ok-apply.ensures.state ∙ ap (λ (f : Following). after_change f.keeper.state change position) c.self-2.view_is in
+    let pending = c.in_ok-apply.ensures.pending ∙ ap (λ (f : Following). with_change f.keeper.pending change) c.self-2.view_is in
     let same = ap (λ (f : Following). f.lines) c.self-2.view_is ∙ ap (λ (f : Following). f.lines) c.in_ok-change.ensures.rest in
     line_turns _ _ _ _ old _ c.change_of.new.self _ c.in-Step.step c.at_line-position.result (change, position) here c.in_ok-change.ensures.rest
-    (sym c.requires.place) c.in-Step.is next place c.in_ok-change.ensures.makes new last room state (ap (λ (f : Following). f.mbox) c.self-2.view_is) same
+    (sym c.requires.place) c.in-Step.is next place c.in_ok-change.ensures.makes new last room (state, pending) (ap (λ (f : Following). f.mbox) c.self-2.view_is) same

@@ -1,6 +1,7 @@
 use Rattle.std.proofs.lemmas.Result.{err_from_is_err_and}
 use Rattle.std.proofs.Common.{◌≡◌, None, Err, true, false, ap, subst, sym, ◌∙◌}
 use Rattle.keeper.specs.Keeping.{after_change, is_refused}
+use Rattle.keeper.specs.Pending.{with_change}
 use Rattle.follower.specs.Feed.{counted}
 use Rattle.source_buffer.specs.Known.{IfKnown}
 use Rattle.follower.specs.Following.{Following, keep_fault, to_come}
@@ -29,9 +30,10 @@ returns-clause-goes g c =
     let new : Following = record { keeper = c.apply.new.self; mbox = c.self-2.inside.mbox; lines = c.self-2.inside.lines; failed = false } in
     let room = subst (λ (f : Following). is_refused f.keeper.state change ≡ false) c.self-2.view_is c.in_ok-apply.ensures.room in
     let state = c.in_ok-apply.ensures.state ∙ ap (λ (f : Following). after_change f.keeper.state change q) c.self-2.view_is in
+    let pending = c.in_ok-apply.ensures.pending ∙ ap (λ (f : Following). with_change f.keeper.pending change) c.self-2.view_is in
     let before = c.counted.ensures ∙ ap counted c.position-position.ensures.value ∙ sym (ap (λ (f : Following). counted f.keeper.state.position) rest) in
     let mail = c.place.ensures ∙ ap (λ (f : Following). f.mbox.place) c.self-2.view_is in
     let place = c.at_mail-position.ensures ∙ ap (λ (p : Position). record p { mbox = c.place.result }) before ∙ ap (λ mbox. record (counted mid.keeper.state.position) { mbox = mbox }) mail in
-    let turns = mail_turns _ _ old mid _ change rest c.in-Some.is c.in_ok-change.ensures.next new q room state place (ap (λ (f : Following). f.mbox) c.self-2.view_is) in
+    let turns = mail_turns _ _ old mid _ change rest c.in-Some.is c.in_ok-change.ensures.next new q room (state, pending) place (ap (λ (f : Following). f.mbox) c.self-2.view_is) in
     subst (λ (f : Following). IfKnown (g.M.Source.left c.args.mbox.now) (g.M.Source.left c.next_arrival.new.mbox) (λ before after.
-    MakesFirst f.keeper.state (to_come None f before None) new.keeper.state (to_come None new after None))) c.self.view_is turns
+    MakesFirst f.keeper (to_come None f before None) new.keeper (to_come None new after None))) c.self.view_is turns
