@@ -27,10 +27,10 @@ const ROOM: usize = 5_000;
 pub const ME: &[u8] = b"me@x.org";
 
 /// Another one.
-const BOB: &[u8] = b"bob@x.org";
+pub const BOB: &[u8] = b"bob@x.org";
 
 /// How many calls an opening of an empty shelf and three commits make.
-const CALLS: u64 = 30;
+pub const CALLS: u64 = 30;
 
 /// A slot of the empty mailbox of that address at that moment, after two changes.
 pub const SLOT: &[u8] =
@@ -174,7 +174,7 @@ fn find<H: Shelf>(alloc: Global, me: &[u8], shelf: &mut H) -> Result<(u64, Ended
 }
 
 /// A shelf of two such contents in A and T, with room for 100 calls, which fail from the number `stop` on.
-fn shelf_of(alloc: Global, a: &[u8], t: &[u8], stop: Option<u64>) -> Result<MemoryShelf, Fail> {
+pub fn shelf_of(alloc: Global, a: &[u8], t: &[u8], stop: Option<u64>) -> Result<MemoryShelf, Fail> {
     if a.len() > ROOM || t.len() > ROOM {
         return Err(Fail::from("no room"));
     }

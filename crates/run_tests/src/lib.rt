@@ -1,5 +1,5 @@
-//! Tests of the devices, of images, of slots, of the tail, of the keeper, of trials, of whole runs, and of runs that go on
-//! from what is kept. It has no code of its own.
+//! Tests of the devices, of images, of slots, of the tail, of the keeper, of the follower, of trials, of whole runs, and of
+//! runs that go on from what is kept. It has no code of its own.
 #![tactic(auto)]
 
 #[cfg(test)]
@@ -8,6 +8,8 @@ mod commits;
 mod devices;
 #[cfg(test)]
 mod disk_model;
+#[cfg(test)]
+mod following;
 #[cfg(test)]
 mod full_tail;
 #[cfg(test)]
