@@ -31,6 +31,6 @@ mod stopped;
 #[cfg(test)]
 mod tail;
 #[cfg(test)]
-mod trial;
+mod trials;
 #[cfg(test)]
 mod words;

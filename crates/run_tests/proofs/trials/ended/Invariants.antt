@@ -1,4 +1,4 @@
-use Rattle.run_tests.proofs.trial.ended.Given as goal
+use Rattle.run_tests.proofs.trials.ended.Given as goal
 
 -- the ledger that the blank was made for
 abbrev pub ghosts-print_counted : goal.ghosts-print_counted
