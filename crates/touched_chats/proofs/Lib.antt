@@ -1,0 +1,9 @@
+-- Lemmas.
+pub mod Lists
+pub mod Moving
+pub mod Near
+pub mod Beside
+pub mod Marking
+pub mod Clock
+pub mod Staying
+pub mod Kept

@@ -1,0 +1,48 @@
+//! Laws of what a change touches. Each is the contract of a function that does nothing: its clauses speak of every mailbox
+//! and every change.
+ghost use Rattle.std.specs.Prelude.{◌≡◌, false, None, if◌then◌else◌, is_some};
+ghost use Rattle.std.specs.List.{AllByRecursion};
+ghost use Rattle.card_type.specs.declared.key.ChatKey.{ChatKey};
+ghost use Rattle.mailbox_model.specs.declared.change.Change.{Change};
+ghost use Rattle.mailbox_model.specs.declared.turn.Turn.{Turn};
+ghost use Rattle.mailbox_model.specs.Mailbox.{Mailbox, after, IsMailbox};
+ghost use Rattle.mailbox_model.specs.Turns.{turn, IsTurn};
+ghost use Rattle.mailbox_model.specs.Chats.{chat_mails};
+ghost use Rattle.mailbox_model.specs.Rows.{expiry, row};
+ghost use Rattle.mailbox_model.specs.Frames.{NameStays, Stays};
+ghost use Rattle.mailbox_model.specs.Pages.{page};
+ghost use Rattle.mailbox_model.specs.ChatList.{list_row};
+ghost use Rattle.mailbox_model.specs.States.{chat_cards};
+ghost use Rattle.touched_chats.specs.Reach.{is_reached};
+
+/// A chat that a change does not reach stays as it is: nothing that is kept of it has to be looked at.
+///
+/// The turn of a change says how the present mails and the moment change (`changes_move_the_present`). A chat is reached
+/// where a card came into it or left it, where a mail that came, left or was marked is in it or names a card of it, where it
+/// is the chat with one other whose name such a mail changes, and where a shown row of it has expired.
+///
+/// - `stays`: any other chat has the same cards, and each has the same row.
+/// - `name`: and the one other that it may be with has the same name.
+/// - `page`, `list`: so it has the same page, and the same row in the list.
+/// - `cards`: each card is marked alike, so that what is kept of the chat, which follows from the places, the cards and the
+///   marks, is the same.
+/// - `deadlines`: each shown card expires at the same moment.
+/// - `change`: all this is so for every change of a mailbox, be it an arrival, an expunge, a seen mark or a moment.
+pub fn a_chat_that_is_not_reached_stays()
+    ensures stays { (m n : Mailbox) (turn : Turn) (key : ChatKey) → m.me ≡ n.me → IsTurn m n turn
+        → is_reached m n turn key ≡ false → Stays m n key }
+    ensures name { (m n : Mailbox) (turn : Turn) (key : ChatKey) → IsTurn m n turn → is_reached m n turn key ≡ false
+        → NameStays m n key }
+    ensures page { (m n : Mailbox) (turn : Turn) (key : ChatKey) → m.me ≡ n.me → IsTurn m n turn
+        → is_reached m n turn key ≡ false → page m key ≡ page n key }
+    ensures list { (m n : Mailbox) (turn : Turn) (key : ChatKey) → m.me ≡ n.me → IsTurn m n turn
+        → is_reached m n turn key ≡ false → list_row m key ≡ list_row n key }
+    ensures cards { (m n : Mailbox) (turn : Turn) (key : ChatKey) → m.me ≡ n.me → IsTurn m n turn
+        → is_reached m n turn key ≡ false → chat_cards m key ≡ chat_cards n key }
+    ensures deadlines { (m n : Mailbox) (turn : Turn) (key : ChatKey) → m.me ≡ n.me → IsTurn m n turn
+        → is_reached m n turn key ≡ false
+        → AllByRecursion (λ t. (if is_some (row m t) then expiry m.me t else None) ≡ (if is_some (row n t) then expiry n.me t else None)) (chat_mails m key) }
+    ensures change { (m : Mailbox) (change : Change) (key : ChatKey) → IsMailbox m
+        → is_reached m (after m change) (turn m change) key ≡ false
+        → Stays m (after m change) key × NameStays m (after m change) key }
+{}

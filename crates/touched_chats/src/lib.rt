@@ -1,0 +1,7 @@
+//! Which chats a change touches, and why all others stay as they are. It has no logic of its own; its functions are laws
+//! of the definition of a mailbox.
+#![tactic(auto)]
+
+mod laws;
+
+pub use laws::a_chat_that_is_not_reached_stays;
