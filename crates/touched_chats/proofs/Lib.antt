@@ -2,8 +2,11 @@
 pub mod Lists
 pub mod Moving
 pub mod Near
+pub mod Turned
 pub mod Beside
 pub mod Marking
 pub mod Clock
 pub mod Staying
 pub mod Kept
+pub mod Covered
+pub mod Refolds

@@ -25,39 +25,12 @@ use Rattle.mailbox_model.proofs.ListLaws.{key_self}
 use Rattle.mailbox_model.proofs.TurnLaws.{turn_law}
 use Rattle.touched_chats.specs.Reach.{is_moved, turned_uids, turned, is_near, is_turned, is_renamed, has_due, is_reached}
 use Rattle.touched_chats.proofs.Lists.{each_not, any_passing, not_inserted}
+use Rattle.touched_chats.proofs.Turned.{is_of, first_uid, second_uid, passing, none_turned, not_left, not_came}
 use Rattle.touched_chats.proofs.Moving.{Unmoved, unmoved_chat}
 use Rattle.touched_chats.proofs.Near.{is_in, far_before, far_apart}
 use Rattle.touched_chats.proofs.Beside.{with_maybe, each_of, beside_name, beside_stays}
 use Rattle.touched_chats.proofs.Marking.{marked_name, marked_stays}
 use Rattle.touched_chats.proofs.Clock.{clock_stays}
-
--- ---- what is not true of any mail of a turn
-
-abbrev is_of : Turn → Mail → Bool
-is_of turn t = list_any (nat_eq t.placed.uid) (turned_uids turn)
-
-first_uid : (uid : ℕ) (uids : List ℕ) (t : Mail) → t.placed.uid ≡ uid → list_any (nat_eq t.placed.uid) (uid ∷ uids) ≡ true
-first_uid uid uids t e = or_left (nat_eq t.placed.uid uid) (list_any (nat_eq t.placed.uid) uids) (eq-eqb t.placed.uid uid e)
-
-second_uid : (first uid : ℕ) (t : Mail) → t.placed.uid ≡ uid → list_any (nat_eq t.placed.uid) (first ∷ uid ∷ []) ≡ true
-second_uid first uid t e =
-    or_right (nat_eq t.placed.uid first) (list_any (nat_eq t.placed.uid) (uid ∷ [])) (first_uid uid [] t e)
-
-passing : (b c : Bool) → b ≡ true → (b && c) ≡ false → c ≡ false
-passing true c e h = h
-passing false c e h = absurd (false≢true e)
-
-module _ (m n : Mailbox) (turn : Turn) (p : Mail → Bool) (h : list_any p (turned m n turn) ≡ false) where
-  parts : (list_any (λ t. is_of turn t && p t) (present m) ≡ false) × (list_any (λ t. is_of turn t && p t) (present n) ≡ false)
-  parts =
-      or_parts (list_any (λ t. is_of turn t && p t) (present m)) (list_any (λ t. is_of turn t && p t) (present n))
-      (sym (any_passing p (is_of turn) (present m ++ present n) ∙ list_any-append (λ t. is_of turn t && p t) (present m) (present n)) ∙ h)
-
-  not_left : (t : Mail) (ts : List Mail) → is_of turn t ≡ true → present m ≡ with_mail t ts → p t ≡ false
-  not_left t ts is e = passing (is_of turn t) (p t) is (not_inserted mail_cmp (λ t. is_of turn t && p t) t ts (present m) e parts.0)
-
-  not_came : (t : Mail) (ts : List Mail) → is_of turn t ≡ true → present n ≡ with_mail t ts → p t ≡ false
-  not_came t ts is e = passing (is_of turn t) (p t) is (not_inserted mail_cmp (λ t. is_of turn t && p t) t ts (present n) e parts.1)
 
 -- ---- the cards of a chat
 
@@ -84,7 +57,7 @@ module _ (m n : Mailbox) (key : ChatKey) (me : m.me ≡ n.me) (unmoved : Unmoved
       let new = not_came m n (Replace from to) (is_near n key) none u both.others (second_uid from.uid to.uid u (ap (λ s. s.uid) is.present.3)) both.second in
       beside_stays m n (Some t) (Some u) both.others both.first both.second key me (sym is.clock) unmoved (far t old) (far u new)
   by_turn (Marked uid) is none due =
-      marked_stays uid m.now m n is.present.4 key me (sym is.clock) (apart (present m) (each_not (λ t. is_of (Marked uid) t && is_near n key t) (present m) (parts m n (Marked uid) (is_near n key) none).0))
+      marked_stays uid m.now m n is.present.4 key me (sym is.clock) (apart (present m) (each_not (λ t. is_of (Marked uid) t && is_near n key t) (present m) (none_turned m n (Marked uid) (is_near n key) none).0))
     where
       apart : (ts : List Mail) → AllByRecursion (λ t. (is_of (Marked uid) t && is_near n key t) ≡ false) ts
           → AllByRecursion (λ t. is_mail uid t ≡ true → is_in m key t ≡ false) ts
@@ -158,19 +131,31 @@ module _ (m n : Mailbox) (addr : Bytes) where
 
 -- ---- by all of these
 
-pub turn_stays : (m n : Mailbox) (turn : Turn) (key : ChatKey) → m.me ≡ n.me → IsTurn m n turn → is_reached m n turn key ≡ false → Stays m n key
-turn_stays m n turn key me is h =
+-- none of the four reasons
+record IsFree (m n : Mailbox) (turn : Turn) (key : ChatKey) : Type 0 where
+  pub moved : is_moved (cites m) (cites n) key ≡ false
+  pub turned : is_turned m n turn key ≡ false
+  pub renamed : is_renamed m n turn key ≡ false
+  pub due : has_due m n.now key ≡ false
+
+free_of : (m n : Mailbox) (turn : Turn) (key : ChatKey) → is_reached m n turn key ≡ false → IsFree m n turn key
+free_of m n turn key h =
     let moves = or_parts (is_moved (cites m) (cites n) key) (is_turned m n turn key || (is_renamed m n turn key || has_due m n.now key)) h in
     let mails = or_parts (is_turned m n turn key) (is_renamed m n turn key || has_due m n.now key) moves.1 in
     let rest = or_parts (is_renamed m n turn key) (has_due m n.now key) mails.1 in
-    by_turn m n key me (unmoved_chat m n key moves.0) turn is mails.0 rest.1
+    record { moved = moves.0; turned = mails.0; renamed = rest.0; due = rest.1 }
+
+pub reached_mails : (m n : Mailbox) (turn : Turn) (key : ChatKey) → is_reached m n turn key ≡ false → is_turned m n turn key ≡ false
+reached_mails m n turn key h = (free_of m n turn key h).turned
+
+pub turn_stays : (m n : Mailbox) (turn : Turn) (key : ChatKey) → m.me ≡ n.me → IsTurn m n turn → is_reached m n turn key ≡ false → Stays m n key
+turn_stays m n turn key me is h =
+    let free = free_of m n turn key h in
+    by_turn m n key me (unmoved_chat m n key free.moved) turn is free.turned free.due
 
 pub turn_name_stays : (m n : Mailbox) (turn : Turn) (key : ChatKey) → IsTurn m n turn → is_reached m n turn key ≡ false → NameStays m n key
 turn_name_stays m n turn key is h addr e =
-    let moves = or_parts (is_moved (cites m) (cites n) key) (is_turned m n turn key || (is_renamed m n turn key || has_due m n.now key)) h in
-    let mails = or_parts (is_turned m n turn key) (is_renamed m n turn key || has_due m n.now key) moves.1 in
-    let rest = or_parts (is_renamed m n turn key) (has_due m n.now key) mails.1 in
-    name_by_turn m n addr turn is (subst (λ k. is_renamed m n turn k ≡ false) e rest.0)
+    name_by_turn m n addr turn is (subst (λ k. is_renamed m n turn k ≡ false) e (free_of m n turn key h).renamed)
 
 -- ---- of a change
 

@@ -1,3 +1,4 @@
 -- What public clauses cite.
 pub mod Touched
 pub mod Reach
+pub mod Costs

@@ -1,5 +1,5 @@
 -- Which chats a change touches: those that show something of a mail that changed, and those whose cards or page differ.
-use Rattle.std.specs.Prelude.{◌≢◌, ◌⊎◌, Bool, not, ◌||◌, ◌&&◌, nat_eq, List, ◌++◌, filter, IsTrue}
+use Rattle.std.specs.Prelude.{◌≡◌, true, ◌≢◌, ◌⊎◌, Bool, not, ◌||◌, ◌&&◌, nat_eq, List, ◌++◌, filter}
 use Rattle.std.specs.List.{list_any}
 use Rattle.std.specs.Option.{option_eq}
 use Rattle.card_type.specs.declared.key.ChatKey.{ChatKey}
@@ -35,5 +35,5 @@ has_chat m key = list_any (key_eq key) (keys m)
 
 -- a chat of either mailbox that has such a card, or whose cards or page differ
 pub record IsTouched (m n : Mailbox) (key : ChatKey) : Type 0 where
-  pub there : IsTrue (has_chat m key || has_chat n key)
-  pub why : IsTrue (list_any (is_concerned m n) (chat_mails m key ++ chat_mails n key)) ⊎ ((chat_mails m key ≢ chat_mails n key) ⊎ (page m key ≢ page n key))
+  pub there : (has_chat m key || has_chat n key) ≡ true
+  pub why : (list_any (is_concerned m n) (chat_mails m key ++ chat_mails n key) ≡ true) ⊎ ((chat_mails m key ≢ chat_mails n key) ⊎ (page m key ≢ page n key))

@@ -1,8 +1,9 @@
 //! Laws of what a change touches. Each is the contract of a function that does nothing: its clauses speak of every mailbox
 //! and every change.
-ghost use Rattle.std.specs.Prelude.{◌≡◌, false, None, if◌then◌else◌, is_some};
-ghost use Rattle.std.specs.List.{AllByRecursion};
+ghost use Rattle.std.specs.Prelude.{◌≡◌, ◌≤◌, ◌+◌, ◌*◌, List, length, true, false, None, if◌then◌else◌, is_some};
+ghost use Rattle.std.specs.List.{AllByRecursion, IsDistinct};
 ghost use Rattle.card_type.specs.declared.key.ChatKey.{ChatKey};
+ghost use Rattle.card_type.specs.Keys.{key_eq};
 ghost use Rattle.mailbox_model.specs.declared.change.Change.{Change};
 ghost use Rattle.mailbox_model.specs.declared.turn.Turn.{Turn};
 ghost use Rattle.mailbox_model.specs.Mailbox.{Mailbox, after, IsMailbox};
@@ -13,7 +14,9 @@ ghost use Rattle.mailbox_model.specs.Frames.{NameStays, Stays};
 ghost use Rattle.mailbox_model.specs.Pages.{page};
 ghost use Rattle.mailbox_model.specs.ChatList.{list_row};
 ghost use Rattle.mailbox_model.specs.States.{chat_cards};
+ghost use Rattle.touched_chats.specs.Costs.{by_uid, cards_in, citing_unsettled, pairs_of, refold_reads, repair_cost, AreHeld};
 ghost use Rattle.touched_chats.specs.Reach.{is_reached};
+ghost use Rattle.touched_chats.specs.Touched.{IsTouched};
 
 /// A chat that a change does not reach stays as it is: nothing that is kept of it has to be looked at.
 ///
@@ -45,4 +48,25 @@ pub fn a_chat_that_is_not_reached_stays()
     ensures change { (m : Mailbox) (change : Change) (key : ChatKey) → IsMailbox m
         → is_reached m (after m change) (turn m change) key ≡ false
         → Stays m (after m change) key × NameStays m (after m change) key }
+{}
+
+/// Every chat that a change touches is one that it reaches. So a program that repairs the chats that are reached has all that
+/// show something of a changed mail, and all whose cards or page differ.
+pub fn a_touched_chat_is_reached()
+    ensures { (m n : Mailbox) (turn : Turn) (key : ChatKey) → m.me ≡ n.me → IsTurn m n turn → IsTouched m n key
+        → is_reached m n turn key ≡ true }
+{}
+
+/// To fold touched chats anew costs no more than a repair may cost, in reads of kept cards.
+///
+/// Of different chats, each among `held`, each card is read once, and for each card once each present card that names it.
+///
+/// - `reads`: these are no more than the cards of the chats of `held`, before or after, and the pairs of such a card and a
+///   card that names it.
+/// - `cost`: so four times as many, and 16 more, are within the cost of a repair, where `held` are the touched chats.
+pub fn refolds_fit_the_cost()
+    ensures reads { (m n : Mailbox) (keys held : List ChatKey) → IsDistinct key_eq keys → AreHeld held keys
+        → refold_reads n keys ≤ length (cards_in m n held) + pairs_of m n (by_uid (cards_in m n held) (citing_unsettled m n)) }
+    ensures cost { (m n : Mailbox) (keys held : List ChatKey) → IsDistinct key_eq keys → AreHeld held keys
+        → 4 * refold_reads n keys + 16 ≤ repair_cost m n held }
 {}

@@ -4,4 +4,4 @@
 
 mod laws;
 
-pub use laws::a_chat_that_is_not_reached_stays;
+pub use laws::{a_chat_that_is_not_reached_stays, a_touched_chat_is_reached, refolds_fit_the_cost};

@@ -1,0 +1,147 @@
+-- The cards of different chats, each with those that name it, are no more than the cost of a repair counts.
+use Rattle.std.proofs.Common.{◌≡◌, refl, sym, ap, ◌∙◌, subst, ℕ, ◌+◌, ◌*◌, ◌≤◌, Bool, true, false, not, ◌||◌, cond, Option, Some, None, List, [], ◌∷◌, ◌++◌, length, map, arith, length-append}
+use Rattle.std.specs.Prelude.{filter, sum_by, count_by}
+use Rattle.std.specs.List.{list_any, AllByRecursion, IsDistinct}
+use Rattle.std.proofs.lemmas.Bool.{false≢true}
+use Rattle.std.proofs.lemmas.List.{map-append}
+use Rattle.std.proofs.lemmas.List.Sums.{sum_by-cons, sum_by-append}
+use Rattle.card_type.specs.declared.key.ChatKey.{ChatKey}
+use Rattle.card_type.specs.Effects.{is_among, names}
+use Rattle.card_type.specs.Keys.{key_eq}
+use Rattle.mailbox_model.specs.Mailbox.{Mailbox}
+use Rattle.mailbox_model.specs.Present.{Placed, Mail, same_uid, present, contents}
+use Rattle.mailbox_model.specs.Chats.{chat, is_chat, chat_mails}
+use Rattle.mailbox_model.proofs.ListLaws.{key_same, key_turn}
+use Rattle.touched_chats.specs.Costs.{by_uid, is_in_any, cards_in, citing_unsettled, times_named, pairs_of, row_reads, chat_reads, refold_reads, repair_cost, AreHeld}
+
+-- ---- a sum over the elements that pass one of two tests, no element both
+
+sum_filter : {X : Type 0} (f : X → ℕ) (b : Bool) (x : X) (xs : List X) → sum_by f (cond b (x ∷ xs) xs) ≡ cond b (f x) 0 + sum_by f xs
+sum_filter f true x xs = sum_by-cons f x xs
+sum_filter f false x xs = omega arith
+
+apart_sum : {X : Type 0} (f : X → ℕ) (p q : X → Bool) → ((x : X) → p x ≡ true → q x ≡ false) → (xs : List X)
+    → sum_by f (filter (λ x. p x || q x) xs) ≡ sum_by f (filter p xs) + sum_by f (filter q xs)
+apart_sum f p q h [] = refl
+apart_sum {X} f p q h (x ∷ xs) =
+    let rest = apart_sum f p q h xs in
+    let one = sum_filter f (p x || q x) x (filter (λ y. p y || q y) xs) in
+    let two = sum_filter f (p x) x (filter p xs) in
+    let three = sum_filter f (q x) x (filter q xs) in
+    let here : cond (p x || q x) (f x) 0 ≡ cond (p x) (f x) 0 + cond (q x) (f x) 0 = alone (p x) (q x) (f x) (h x) in
+    omega (arith, rest, one, two, three, here)
+  where
+    alone : (b c : Bool) (n : ℕ) → (b ≡ true → c ≡ false) → cond (b || c) n 0 ≡ cond b n 0 + cond c n 0
+    alone true c n g = rw (g refl) (omega arith)
+    alone false c n g = omega arith
+
+-- ---- chats of different keys have no card in common
+
+no_card : (m : Mailbox) (key : ChatKey) (held : List ChatKey) → AllByRecursion (λ k. key_eq key k ≡ false) held
+    → (t : Mail) → is_chat key (chat m t.placed.card.id) ≡ true → is_in_any m held t ≡ false
+no_card m key held a t h = by (chat m t.placed.card.id) held a h
+  where
+    by : (o : Option ChatKey) (ks : List ChatKey) → AllByRecursion (λ k. key_eq key k ≡ false) ks → is_chat key o ≡ true → list_any (λ k. is_chat k o) ks ≡ false
+    by o [] a h = refl
+    by None (k ∷ ks) a h = by None ks a.1 h
+    by (Some c) (k ∷ ks) a h =
+        let same : key ≡ c = key_same key c h in
+        rw (key_turn k c ∙ subst (λ d. key_eq d k ≡ false) same a.0) (by (Some c) ks a.1 h)
+
+-- summed chat by chat is summed over the cards of these chats
+sum_of_chats : (m : Mailbox) (f : Mail → ℕ) (held : List ChatKey) → IsDistinct key_eq held
+    → sum_by (λ key. sum_by f (chat_mails m key)) held ≡ sum_by f (filter (is_in_any m held) (contents m))
+unfolding IsDistinct
+sum_of_chats m f [] d = sym (none (contents m))
+  where
+    none : (ts : List Mail) → sum_by f (filter (is_in_any m []) ts) ≡ 0
+    none [] = refl
+    none (t ∷ ts) = none ts
+sum_of_chats m f (key ∷ held) d =
+    let rest = sum_of_chats m f held d.1 in
+    let both = apart_sum f (λ t. is_chat key (chat m t.placed.card.id)) (is_in_any m held) (no_card m key held d.0) (contents m) in
+    sum_by-cons (λ key. sum_by f (chat_mails m key)) key held ∙ ap (λ s. sum_by f (chat_mails m key) + s) rest ∙ sym both
+
+-- ---- more passes give more
+
+sum_more : {X : Type 0} (f : X → ℕ) (p q : X → Bool) → ((x : X) → p x ≡ true → q x ≡ true) → (xs : List X) → sum_by f (filter p xs) ≤ sum_by f (filter q xs)
+sum_more f p q h [] = omega arith
+sum_more f p q h (x ∷ xs) =
+    let rest = sum_more f p q h xs in
+    let one = sum_filter f (p x) x (filter p xs) in
+    let two = sum_filter f (q x) x (filter q xs) in
+    let here : cond (p x) (f x) 0 ≤ cond (q x) (f x) 0 = more (p x) (q x) (f x) (h x) in
+    omega (arith, rest, one, two, here)
+  where
+    more : (b c : Bool) (n : ℕ) → (b ≡ true → c ≡ true) → cond b n 0 ≤ cond c n 0
+    more true c n g = rw (g refl) (omega arith)
+    more false c n g = omega arith
+
+or_true : (b : Bool) → (b || true) ≡ true
+or_true true = refl
+or_true false = refl
+
+-- chats that are all among others
+in_any_more : (m : Mailbox) (keys held : List ChatKey) → AllByRecursion (λ key. list_any (key_eq key) held ≡ true) keys → (t : Mail) → is_in_any m keys t ≡ true → is_in_any m held t ≡ true
+in_any_more m [] held a t h = absurd (false≢true h)
+in_any_more m (key ∷ keys) held a t h =
+    elim (is_chat key (chat m t.placed.card.id)) as (λ b. is_chat key (chat m t.placed.card.id) ≡ b → (b || is_in_any m keys t) ≡ true → is_in_any m held t ≡ true) [
+      | true ↦ λ e k. found (chat m t.placed.card.id) e held a.0
+      | false ↦ λ e k. in_any_more m keys held a.1 t k
+    ] refl h
+  where
+    found : (o : Option ChatKey) → is_chat key o ≡ true → (ks : List ChatKey) → list_any (key_eq key) ks ≡ true → list_any (λ k. is_chat k o) ks ≡ true
+    found None e ks g = absurd (false≢true e)
+    found (Some c) e [] g = absurd (false≢true g)
+    found (Some c) e (k ∷ ks) g =
+        let same : key ≡ c = key_same key c e in
+        elim (key_eq key k) as (λ b. key_eq key k ≡ b → (b || list_any (key_eq key) ks) ≡ true → (key_eq k c || list_any (λ j. key_eq j c) ks) ≡ true) [
+          | true ↦ λ d i. rw (key_turn k c ∙ subst (λ x. key_eq x k ≡ true) same d) refl
+          | false ↦ λ d i. rw (found (Some c) e ks i) (or_true (key_eq k c))
+        ] refl g
+
+-- ---- what is read fits
+
+-- those of ys whose uid none of xs has
+abbrev others : List Mail → List Mail → List Mail
+others xs ys = filter (λ y. not (list_any (same_uid y) xs)) ys
+
+-- some name a card, and some more
+more_named : (xs ys : List Mail) (t : Mail) → times_named xs t ≤ times_named (xs ++ ys) t
+more_named xs ys t = omega (arith, both)
+  where
+    one : Placed → ℕ
+    one e = cond (is_among (names e.card) t.placed.card.id) 1 0
+
+    both : times_named (xs ++ ys) t ≡ times_named xs t + times_named ys t
+    both =
+        ap (sum_by one) (map-append (λ e. e.placed) xs ys) ∙ sum_by-append one (map (λ e. e.placed) xs) (map (λ e. e.placed) ys)
+
+-- a card, and those that name it, among the present ones of after and before
+each_named : (m n : Mailbox) (ts : List Mail) → sum_by (row_reads n) ts ≤ length ts + pairs_of m n ts
+each_named m n [] = omega arith
+each_named m n (t ∷ ts) =
+    let rest = each_named m n ts in
+    let left = sum_by-cons (row_reads n) t ts in
+    let right = sum_by-cons (times_named (by_uid (present n) (present m))) t ts in
+    let more = more_named (present n) (others (present n) (present m)) t in
+    omega (arith, rest, left, right, more)
+
+pub reads_fit : (m n : Mailbox) (keys held : List ChatKey) → IsDistinct key_eq keys → AreHeld held keys
+    → refold_reads n keys ≤ length (cards_in m n held) + pairs_of m n (by_uid (cards_in m n held) (citing_unsettled m n))
+reads_fit m n keys held d a =
+    let xs = filter (is_in_any n held) (contents n) in
+    let ys = others xs (filter (is_in_any m held) (contents m)) in
+    let zs = others (cards_in m n held) (citing_unsettled m n) in
+    let g : Mail → ℕ = times_named (by_uid (present n) (present m)) in
+    let by_chat = sum_of_chats n (row_reads n) keys d in
+    let wider = sum_more (row_reads n) (is_in_any n keys) (is_in_any n held) (in_any_more n keys held a) (contents n) in
+    let each = each_named m n xs in
+    let long = length-append xs ys in
+    let paired = sum_by-append g (xs ++ ys) zs in
+    let parted = sum_by-append g xs ys in
+    omega (arith, by_chat, wider, each, long, paired, parted)
+
+pub cost_fits : (m n : Mailbox) (keys held : List ChatKey) → IsDistinct key_eq keys → AreHeld held keys
+    → 4 * refold_reads n keys + 16 ≤ repair_cost m n held
+cost_fits m n keys held d a = let fits = reads_fit m n keys held d a in omega (arith, fits)

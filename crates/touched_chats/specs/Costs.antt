@@ -1,0 +1,68 @@
+-- How many reads of kept cards the repair of the touched chats may take.
+use Rattle.std.specs.Prelude.{◌≡◌, ℕ, ◌+◌, ◌*◌, Bool, true, not, ◌&&◌, List, ◌++◌, length, map, filter, find, sum_by, count_by}
+use Rattle.std.specs.List.{list_any, AllByRecursion}
+use Rattle.std.specs.Option.{option_eq}
+use Rattle.card_type.specs.declared.key.ChatKey.{ChatKey}
+use Rattle.card_type.specs.Effects.{is_among, names}
+use Rattle.card_type.specs.Keys.{key_eq}
+use Rattle.card_type.specs.Spots.{spot_eq}
+use Rattle.mailbox_model.specs.Lists.{Bytes}
+use Rattle.mailbox_model.specs.Mailbox.{Mailbox}
+use Rattle.mailbox_model.specs.Present.{Mail, spot, has_id, same_uid, present, contents}
+use Rattle.mailbox_model.specs.Chats.{candidates, chat, is_chat, chat_mails}
+
+-- of two mailboxes: these, and those of the other that have a uid which none of these has
+abbrev pub by_uid : List Mail → List Mail → List Mail
+by_uid ts more = ts ++ filter (λ u. not (list_any (same_uid u) ts)) more
+
+-- a card is in one of these chats
+abbrev pub is_in_any : Mailbox → List ChatKey → Mail → Bool
+is_in_any m held t = list_any (λ key. is_chat key (chat m t.placed.card.id)) held
+
+-- c: the cards of these chats, after or before
+abbrev pub cards_in : Mailbox → Mailbox → List ChatKey → List Mail
+cards_in m n held = by_uid (filter (is_in_any n held) (contents n)) (filter (is_in_any m held) (contents m))
+
+abbrev pub same_place : Mail → Mail → Bool
+same_place a b = spot_eq (spot a.placed) (spot b.placed)
+
+-- the card with an id is there alike, at one spot and in one chat
+abbrev pub is_settled : Mailbox → Mailbox → Bytes → Bool
+is_settled m n id = option_eq same_place (find (has_id id) (contents m)) (find (has_id id) (contents n)) && option_eq key_eq (chat m id) (chat n id)
+
+abbrev pub cites_unsettled : Mailbox → Mailbox → Mail → Bool
+cites_unsettled m n t = list_any (λ id. not (is_settled m n id)) (candidates t.placed.card)
+
+-- k: the cards, after or before, of which a candidate is another one, or in another chat
+abbrev pub citing_unsettled : Mailbox → Mailbox → List Mail
+citing_unsettled m n = filter (cites_unsettled m n) (by_uid (contents n) (contents m))
+
+-- how many of these mails name a card
+abbrev pub times_named : List Mail → Mail → ℕ
+times_named es t = count_by (λ e. is_among (names e.card) t.placed.card.id) (map (λ e. e.placed) es)
+
+-- e: the pairs of one of these and a mail that is present after or before and names it
+abbrev pub pairs_of : Mailbox → Mailbox → List Mail → ℕ
+pairs_of m n ts = sum_by (times_named (by_uid (present n) (present m))) ts
+
+-- where these are the touched chats
+abbrev pub repair_cost : Mailbox → Mailbox → List ChatKey → ℕ
+repair_cost m n held =
+    let c = cards_in m n held in
+    let k = citing_unsettled m n in
+    4 * (length c + length k + pairs_of m n (by_uid c k)) + 16
+
+-- ---- what folding chats anew reads: each card, and for each the cards that name it
+
+abbrev pub row_reads : Mailbox → Mail → ℕ
+row_reads m t = 1 + times_named (present m) t
+
+abbrev pub chat_reads : Mailbox → ChatKey → ℕ
+chat_reads m key = sum_by (row_reads m) (chat_mails m key)
+
+abbrev pub refold_reads : Mailbox → List ChatKey → ℕ
+refold_reads m keys = sum_by (chat_reads m) keys
+
+-- each of these is among others
+abbrev pub AreHeld : List ChatKey → List ChatKey → Type 0
+AreHeld held keys = AllByRecursion (λ key. list_any (key_eq key) held ≡ true) keys
