@@ -10,3 +10,4 @@ pub mod Staying
 pub mod Kept
 pub mod Covered
 pub mod Refolds
+pub mod Ahead

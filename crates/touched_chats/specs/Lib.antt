@@ -2,3 +2,4 @@
 pub mod Touched
 pub mod Reach
 pub mod Costs
+pub mod Ahead

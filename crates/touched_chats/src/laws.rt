@@ -1,12 +1,14 @@
 //! Laws of what a change touches. Each is the contract of a function that does nothing: its clauses speak of every mailbox
 //! and every change.
-ghost use Rattle.std.specs.Prelude.{◌≡◌, ◌≤◌, ◌+◌, ◌*◌, List, length, true, false, None, if◌then◌else◌, is_some};
+ghost use Rattle.std.specs.Prelude.{◌≡◌, ℕ, ◌≤◌, ◌+◌, ◌*◌, List, length, true, false, None, if◌then◌else◌, is_some};
 ghost use Rattle.std.specs.List.{AllByRecursion, IsDistinct};
 ghost use Rattle.card_type.specs.declared.key.ChatKey.{ChatKey};
 ghost use Rattle.card_type.specs.Keys.{key_eq};
 ghost use Rattle.mailbox_model.specs.declared.change.Change.{Change};
 ghost use Rattle.mailbox_model.specs.declared.turn.Turn.{Turn};
-ghost use Rattle.mailbox_model.specs.Mailbox.{Mailbox, after, IsMailbox};
+ghost use Rattle.mailbox_model.specs.Mailbox.{Mailbox, after, entry_at, IsMailbox};
+ghost use Rattle.mailbox_model.specs.Lists.{Bytes};
+ghost use Rattle.mailbox_model.specs.Present.{spot_of};
 ghost use Rattle.mailbox_model.specs.Turns.{turn, IsTurn};
 ghost use Rattle.mailbox_model.specs.Chats.{chat_mails};
 ghost use Rattle.mailbox_model.specs.Rows.{expiry, row};
@@ -14,6 +16,7 @@ ghost use Rattle.mailbox_model.specs.Frames.{NameStays, Stays};
 ghost use Rattle.mailbox_model.specs.Pages.{page};
 ghost use Rattle.mailbox_model.specs.ChatList.{list_row};
 ghost use Rattle.mailbox_model.specs.States.{chat_cards};
+ghost use Rattle.touched_chats.specs.Ahead.{entry_ahead, now_ahead, spot_ahead};
 ghost use Rattle.touched_chats.specs.Costs.{by_uid, cards_in, citing_unsettled, pairs_of, refold_reads, repair_cost, AreHeld};
 ghost use Rattle.touched_chats.specs.Reach.{is_reached};
 ghost use Rattle.touched_chats.specs.Touched.{IsTouched};
@@ -69,4 +72,16 @@ pub fn refolds_fit_the_cost()
         → refold_reads n keys ≤ length (cards_in m n held) + pairs_of m n (by_uid (cards_in m n held) (citing_unsettled m n)) }
     ensures cost { (m n : Mailbox) (keys held : List ChatKey) → IsDistinct key_eq keys → AreHeld held keys
         → 4 * refold_reads n keys + 16 ≤ repair_cost m n held }
+{}
+
+/// What a change leaves is known before it is made, so that a program may repair first and change the mailbox last.
+///
+/// - `entry`: what has a uid after the change: the card, when it arrived and when it was seen.
+/// - `spot`: where the present mail with an id is after the turn.
+/// - `now`: the moment after the turn.
+pub fn a_change_is_told_ahead()
+    ensures entry { (m : Mailbox) (change : Change) (uid : ℕ) → IsMailbox m
+        → entry_ahead m change uid ≡ entry_at (after m change) uid }
+    ensures spot { (m n : Mailbox) (turn : Turn) (id : Bytes) → IsTurn m n turn → spot_of n id ≡ spot_ahead m turn id }
+    ensures now { (m n : Mailbox) (turn : Turn) → IsTurn m n turn → n.now ≡ now_ahead m.now turn }
 {}

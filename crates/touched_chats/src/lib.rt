@@ -4,4 +4,6 @@
 
 mod laws;
 
-pub use laws::{a_chat_that_is_not_reached_stays, a_touched_chat_is_reached, refolds_fit_the_cost};
+pub use laws::{
+    a_change_is_told_ahead, a_chat_that_is_not_reached_stays, a_touched_chat_is_reached, refolds_fit_the_cost,
+};
