@@ -1,13 +1,12 @@
 -- What is told ahead of a change is what the change leaves.
-use Rattle.std.proofs.Common.{◌≡◌, refl, sym, ap, ◌∙◌, subst, ℕ, Bool, true, false, not, ◌||◌, cond, Option, Some, None, Ok, Err, Result, List, [], ◌∷◌, ◌++◌, map, arith}
+use Rattle.std.proofs.Common.{◌≡◌, refl, sym, ap, ◌∙◌, subst, ℕ, Bool, true, false, not, cond, Option, Some, None, Ok, Err, Result, List, [], ◌∷◌, ◌++◌, map, arith}
 use Rattle.std.specs.Prelude.{if◌then◌else◌, filter, find, option_map, ◌==◌, ◌<◌}
-use Rattle.std.specs.List.{list_any, IsDistinct, AllByRecursion}
+use Rattle.std.specs.List.{IsDistinct, AllByRecursion}
 use Rattle.std.specs.Option.{option_or}
 use Rattle.std.specs.Ordering.{is_lt}
 use Rattle.std.specs.Str.{bytes_eq}
 use Rattle.std.specs.Cmp.Lexicographic.{bytes_decides}
 use Rattle.std.proofs.lemmas.Bool.{both_ways, ne_eqb, eqb-true, eq-eqb}
-use Rattle.lists.specs.Distinct.{firsts}
 use Rattle.lists.proofs.DistinctLaws.{IsDistinct-firsts}
 use Rattle.lists.proofs.Inserts.{None_of, none_found, find-insert_by}
 use Rattle.lists.proofs.OneMore.{none_alike}
@@ -22,7 +21,7 @@ use Rattle.mailbox_model.specs.Lists.{Bytes}
 use Rattle.mailbox_model.specs.Mailbox.{Mailbox, Entry, after, has_uid, entry_at, new_entry, mark_entry, marked_at, RiseBelow, IsMailbox}
 use Rattle.mailbox_model.specs.Present.{Mail, spot, mail_cmp, mails, has_id, same_id, present, spot_of}
 use Rattle.mailbox_model.specs.Turns.{with_mail, is_mail, mark_mail, IsTurn}
-use Rattle.mailbox_model.proofs.MailLaws.{bytes_turn, is_alike}
+use Rattle.mailbox_model.proofs.MailLaws.{is_alike}
 use Rattle.mailbox_model.proofs.UidLaws.{below}
 use Rattle.touched_chats.specs.Ahead.{entry_ahead, spot_ahead, now_ahead}
 

@@ -16,7 +16,7 @@ use Rattle.mailbox_model.specs.Contacts.{all_cards, gives_name, contact_name}
 use Rattle.mailbox_model.specs.Frames.{Stays}
 use Rattle.mailbox_model.proofs.ActLaws.{naming_enough}
 use Rattle.mailbox_model.proofs.FrameLaws.{row_alike}
-use Rattle.touched_chats.specs.Reach.{is_near}
+use Rattle.touched_chats.specs.Suspects.{is_near}
 use Rattle.touched_chats.proofs.Lists.{filter_both, filter-map}
 use Rattle.touched_chats.proofs.Moving.{Unmoved}
 use Rattle.touched_chats.proofs.Near.{is_content_mail, is_in, far_apart, far_unnamed, mails_stay, each_in}

@@ -12,7 +12,7 @@ use Rattle.mailbox_model.specs.Chats.{cites_by, chats_of, known_chat, is_chat, c
 use Rattle.mailbox_model.specs.Rows.{acting, acts_on, expiry, is_withdrawn, is_expired, row, shown_by}
 use Rattle.mailbox_model.specs.Frames.{Stays}
 use Rattle.mailbox_model.proofs.FrameLaws.{row_alike}
-use Rattle.touched_chats.specs.Reach.{is_due, has_due}
+use Rattle.touched_chats.specs.Suspects.{is_due, has_due}
 use Rattle.touched_chats.proofs.Lists.{each_not}
 use Rattle.touched_chats.proofs.Near.{is_content_mail}
 

@@ -1,11 +1,11 @@
--- Where a chat is not reached, no mail that changed is in it or names a card of it.
+-- Where a chat is not suspect, no mail that changed is in it or names a card of it.
 use Rattle.std.proofs.Common.{◌≡◌, ◌≢◌, refl, sym, ap, ◌∙◌, subst, ℕ, Bool, true, false, not, ◌||◌, ◌&&◌, Option, Some, None, List, [], ◌∷◌, ◌++◌, map, ◌⊎◌, inl, inr}
-use Rattle.std.specs.Prelude.{if◌then◌else◌, nat_eq, ◌==◌, filter, IfSome}
+use Rattle.std.specs.Prelude.{if◌then◌else◌, nat_eq, ◌==◌, IfSome}
 use Rattle.std.specs.List.{list_any, AllByRecursion}
 use Rattle.std.specs.Option.{option_eq}
 use Rattle.std.specs.Str.{bytes_eq}
 use Rattle.std.specs.Cmp.Lexicographic.{bytes_decides}
-use Rattle.std.proofs.lemmas.Bool.{both_ways, and_parts, and_from, or_parts, or_left, or_right, or_from, eq-eqb, false≢true, true_from_ne_false}
+use Rattle.std.proofs.lemmas.Bool.{both_ways, and_parts, and_from, or_left, or_right, or_from, eq-eqb, false≢true, true_from_ne_false}
 use Rattle.std.proofs.lemmas.List.Folds.{list_any-append}
 use Rattle.lists.proofs.Inserts.{All-insert_by, list_any-insert_by}
 use Rattle.lists.proofs.OneMore.{none_among}
@@ -14,7 +14,6 @@ use Rattle.card_type.specs.Effects.{is_among, names}
 use Rattle.card_type.specs.Spots.{spot_eq}
 use Rattle.mailbox_model.specs.declared.turn.Turn.{Turn}
 use Rattle.mailbox_model.specs.declared.turn.Turn.TheVariants.{Nothing, Add, Remove, Replace, Marked, Moved}
-use Rattle.mailbox_model.specs.Lists.{Bytes}
 use Rattle.mailbox_model.specs.Mailbox.{Mailbox, marked_at}
 use Rattle.mailbox_model.specs.Present.{Mail, spot, mail_cmp, present}
 use Rattle.mailbox_model.specs.Turns.{is_mail, mark_mail, with_mail, IsTurn}
@@ -22,13 +21,13 @@ use Rattle.mailbox_model.specs.Chats.{chat, is_chat, chat_mails}
 use Rattle.mailbox_model.proofs.ChatLaws.{same_bytes}
 use Rattle.mailbox_model.proofs.FrameLaws.{page_stays}
 use Rattle.mailbox_model.specs.Pages.{page}
-use Rattle.touched_chats.specs.Touched.{is_same, only_in, changed, is_or_names, is_concerned, IsTouched}
-use Rattle.touched_chats.specs.Reach.{is_near, is_reached}
+use Rattle.touched_chats.specs.Touched.{is_same, only_in, is_or_names, is_concerned, IsTouched}
+use Rattle.touched_chats.specs.Suspects.{is_near, is_suspect}
 use Rattle.touched_chats.proofs.Lists.{each_not, any_passing}
 use Rattle.touched_chats.proofs.Near.{is_in, far_apart, far_unnamed, each_in}
 use Rattle.touched_chats.proofs.Turned.{is_of, first_uid, second_uid, none_turned}
 use Rattle.touched_chats.proofs.Beside.{with_maybe}
-use Rattle.touched_chats.proofs.Staying.{turn_stays, turn_name_stays, reached_mails}
+use Rattle.touched_chats.proofs.Staying.{turn_stays, turn_name_stays, suspect_mails}
 
 -- ---- the same mail
 
@@ -84,9 +83,10 @@ module _ (turn : Turn) where
 
   beside_both : (a b : Option Mail) (others before after : List Mail) → before ≡ with_maybe a others → after ≡ with_maybe b others
       → IfSome a (λ t. is_of turn t ≡ true) → IfSome b (λ t. is_of turn t ≡ true) → AreSameBut after before × AreSameBut before after
-  beside_both a b others before after e f old new =
-      (subst (λ ts. AreSameBut ts before) (sym f) (subst (AreSameBut (with_maybe b others)) (sym e) (beside_same b a others old)),
-      subst (λ ts. AreSameBut ts after) (sym e) (subst (AreSameBut (with_maybe a others)) (sym f) (beside_same a b others new)))
+  beside_both a b others before after e f old new = (
+    subst (λ ts. AreSameBut ts before) (sym f) (subst (AreSameBut (with_maybe b others)) (sym e) (beside_same b a others old)),
+    subst (λ ts. AreSameBut ts after) (sym e) (subst (AreSameBut (with_maybe a others)) (sym f) (beside_same a b others new)),
+  )
 
 -- a mark
 module _ (uid now : ℕ) where
@@ -105,9 +105,10 @@ module _ (uid now : ℕ) where
   marked_both : (ts : List Mail) → AreSameBut (Marked uid) (map (mark_mail uid now) ts) ts × AreSameBut (Marked uid) ts (map (mark_mail uid now) ts)
   marked_both [] = (tt, tt)
   marked_both (t ∷ ts) =
-      let rest = marked_both ts in
-      ((old t (unmarked t), All-weaker (λ u. (list_any (is_same u) (map (mark_mail uid now) ts) || is_of (Marked uid) u) ≡ true) (λ u. (list_any (is_same u) (map (mark_mail uid now) (t ∷ ts)) || is_of (Marked uid) u) ≡ true) (λ u h. wider (is_same u (mark_mail uid now t)) (list_any (is_same u) (map (mark_mail uid now) ts)) (is_of (Marked uid) u) h) ts rest.0),
-      (new t (unmarked t), All-weaker (λ u. (list_any (is_same u) ts || is_of (Marked uid) u) ≡ true) (λ u. (list_any (is_same u) (t ∷ ts) || is_of (Marked uid) u) ≡ true) (λ u h. wider (is_same u t) (list_any (is_same u) ts) (is_of (Marked uid) u) h) (map (mark_mail uid now) ts) rest.1))
+      let rest = marked_both ts in (
+        (old t (unmarked t), All-weaker (λ u. (list_any (is_same u) (map (mark_mail uid now) ts) || is_of (Marked uid) u) ≡ true) (λ u. (list_any (is_same u) (map (mark_mail uid now) (t ∷ ts)) || is_of (Marked uid) u) ≡ true) (λ u h. wider (is_same u (mark_mail uid now t)) (list_any (is_same u) (map (mark_mail uid now) ts)) (is_of (Marked uid) u) h) ts rest.0),
+        (new t (unmarked t), All-weaker (λ u. (list_any (is_same u) ts || is_of (Marked uid) u) ≡ true) (λ u. (list_any (is_same u) (t ∷ ts) || is_of (Marked uid) u) ≡ true) (λ u h. wider (is_same u t) (list_any (is_same u) ts) (is_of (Marked uid) u) h) (map (mark_mail uid now) ts) rest.1),
+      )
     where
       wider : (a b c : Bool) → (b || c) ≡ true → ((a || b) || c) ≡ true
       wider true b c h = refl
@@ -158,7 +159,7 @@ module _ (turn : Turn) (p q : Mail → Bool) (follows : (t : Mail) → p t ≡ f
       each [] a b = tt
       each (t ∷ ts) a b = (one (list_any (is_same t) others) (is_of turn t) (p t) (q t) (follows t) a.0 b.0, each ts a.1 b.1)
 
-module _ (m n : Mailbox) (turn : Turn) (key : ChatKey) (me : m.me ≡ n.me) (is : IsTurn m n turn) (h : is_reached m n turn key ≡ false) where
+module _ (m n : Mailbox) (turn : Turn) (key : ChatKey) (me : m.me ≡ n.me) (is : IsTurn m n turn) (h : is_suspect m n turn key ≡ false) where
   -- a mail that is far from the chat is not one of its cards, and names none
   apart : (t : Mail) → is_in n key t ≡ true → (e : Mail) → is_near n key e ≡ false → is_or_names t e ≡ false
   apart t there e far = or_from (is_same e t) (is_among (names e.placed.card) t.placed.card.id) (other (is_same e t) refl) (far_unnamed n key e far t there)
@@ -169,7 +170,7 @@ module _ (m n : Mailbox) (turn : Turn) (key : ChatKey) (me : m.me ≡ n.me) (is 
 
   unconcerned : (t : Mail) → is_in n key t ≡ true → is_concerned m n t ≡ false
   unconcerned t there =
-      let none = none_turned m n turn (is_near n key) (reached_mails m n turn key h) in
+      let none = none_turned m n turn (is_near n key) (suspect_mails m n turn key h) in
       let same = others_same m n turn is in
       list_any-append (is_or_names t) (only_in (present n) (present m)) (only_in (present m) (present n))
       ∙ or_from (list_any (is_or_names t) (only_in (present n) (present m))) (list_any (is_or_names t) (only_in (present m) (present n)))
@@ -191,5 +192,5 @@ module _ (m n : Mailbox) (turn : Turn) (key : ChatKey) (me : m.me ≡ n.me) (is 
       by (inr (inl differ)) = differ (turn_stays m n turn key me is h).mails
       by (inr (inr differ)) = differ (page_stays m n key (turn_stays m n turn key me is h) (turn_name_stays m n turn key is h))
 
-pub touched_reached : (m n : Mailbox) (turn : Turn) (key : ChatKey) → m.me ≡ n.me → IsTurn m n turn → IsTouched m n key → is_reached m n turn key ≡ true
-touched_reached m n turn key me is touched = true_from_ne_false (is_reached m n turn key) (λ h. untouched m n turn key me is h touched)
+pub touched_suspect : (m n : Mailbox) (turn : Turn) (key : ChatKey) → m.me ≡ n.me → IsTurn m n turn → IsTouched m n key → is_suspect m n turn key ≡ true
+touched_suspect m n turn key me is touched = true_from_ne_false (is_suspect m n turn key) (λ h. untouched m n turn key me is h touched)

@@ -16,7 +16,7 @@ use Rattle.mailbox_model.specs.Mailbox.{Mailbox}
 use Rattle.mailbox_model.specs.Chats.{chat, chat_among, cites, is_chat, is_id_among, moved}
 use Rattle.mailbox_model.proofs.ChatLaws.{is_some-known_chat}
 use Rattle.mailbox_model.proofs.ListLaws.{key_same}
-use Rattle.touched_chats.specs.Reach.{is_end, is_moved}
+use Rattle.touched_chats.specs.Suspects.{is_end, is_moved}
 
 -- no id comes into a chat or leaves it
 abbrev pub Unmoved : Mailbox → Mailbox → ChatKey → Type 0

@@ -13,7 +13,7 @@ use Rattle.mailbox_model.specs.Lists.{Bytes}
 use Rattle.mailbox_model.specs.Mailbox.{Mailbox}
 use Rattle.mailbox_model.specs.Present.{Mail, contents}
 use Rattle.mailbox_model.specs.Chats.{chat, is_chat, chat_mails}
-use Rattle.touched_chats.specs.Reach.{is_near}
+use Rattle.touched_chats.specs.Suspects.{is_near}
 use Rattle.touched_chats.proofs.Lists.{All-passing}
 use Rattle.touched_chats.proofs.Moving.{Unmoved}
 

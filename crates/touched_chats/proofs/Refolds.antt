@@ -1,6 +1,6 @@
 -- The cards of different chats, each with those that name it, are no more than the cost of a repair counts.
 use Rattle.std.proofs.Common.{◌≡◌, refl, sym, ap, ◌∙◌, subst, ℕ, ◌+◌, ◌*◌, ◌≤◌, Bool, true, false, not, ◌||◌, cond, Option, Some, None, List, [], ◌∷◌, ◌++◌, length, map, arith, length-append}
-use Rattle.std.specs.Prelude.{filter, sum_by, count_by}
+use Rattle.std.specs.Prelude.{filter, sum_by}
 use Rattle.std.specs.List.{list_any, AllByRecursion, IsDistinct}
 use Rattle.std.proofs.lemmas.Bool.{false≢true}
 use Rattle.std.proofs.lemmas.List.{map-append}
@@ -12,7 +12,7 @@ use Rattle.mailbox_model.specs.Mailbox.{Mailbox}
 use Rattle.mailbox_model.specs.Present.{Placed, Mail, same_uid, present, contents}
 use Rattle.mailbox_model.specs.Chats.{chat, is_chat, chat_mails}
 use Rattle.mailbox_model.proofs.ListLaws.{key_same, key_turn}
-use Rattle.touched_chats.specs.Costs.{by_uid, is_in_any, cards_in, citing_unsettled, times_named, pairs_of, row_reads, chat_reads, refold_reads, repair_cost, AreHeld}
+use Rattle.touched_chats.specs.Costs.{by_uid, is_in_any, cards_in, citing_unsettled, times_named, pairs_of, row_reads, refold_reads, repair_cost, AreHeld}
 
 -- ---- a sum over the elements that pass one of two tests, no element both
 

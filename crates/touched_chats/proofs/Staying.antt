@@ -1,11 +1,10 @@
--- A chat that a turn does not reach stays.
-use Rattle.std.proofs.Common.{◌≡◌, refl, sym, ap, ◌∙◌, subst, ℕ, ◌≤◌, Bool, true, false, not, ◌||◌, ◌&&◌, Option, Some, None, List, [], ◌∷◌, ◌++◌, arith, ◌⊎◌, inl, inr}
-use Rattle.std.specs.Prelude.{nat_eq, IfSome}
-use Rattle.std.specs.List.{list_any, AllByRecursion}
+-- A chat that is not suspect stays.
+use Rattle.std.proofs.Common.{◌≡◌, refl, sym, ap, ◌∙◌, subst, ◌≤◌, Bool, true, false, not, ◌||◌, ◌&&◌, Option, Some, None, List, [], ◌∷◌, arith, ◌⊎◌, inl, inr}
+use Rattle.std.specs.Prelude.{IfSome}
+use Rattle.std.specs.List.{AllByRecursion}
 use Rattle.std.specs.Str.{bytes_eq}
 use Rattle.std.specs.Cmp.Lexicographic.{bytes_decides}
-use Rattle.std.proofs.lemmas.Bool.{or_parts, or_left, or_right, and_left, both_ways, eq-eqb, false≢true}
-use Rattle.std.proofs.lemmas.List.Folds.{list_any-append}
+use Rattle.std.proofs.lemmas.Bool.{or_parts, or_left, and_left, both_ways}
 use Rattle.card_type.specs.declared.key.ChatKey.{ChatKey}
 use Rattle.card_type.specs.declared.key.ChatKey.TheVariants.{Single}
 use Rattle.card_type.specs.Keys.{key_eq}
@@ -16,15 +15,15 @@ use Rattle.mailbox_model.specs.Lists.{Bytes}
 use Rattle.mailbox_model.specs.declared.change.Change.{Change}
 use Rattle.mailbox_model.specs.declared.change.Change.TheVariants.{Arrive, ArriveFault, Expunge, Seen, At}
 use Rattle.mailbox_model.specs.Mailbox.{Mailbox, after, IsMailbox}
-use Rattle.mailbox_model.specs.Present.{Mail, mail_cmp, present}
-use Rattle.mailbox_model.specs.Turns.{is_mail, with_mail, turn, IsTurn}
+use Rattle.mailbox_model.specs.Present.{Mail, present}
+use Rattle.mailbox_model.specs.Turns.{is_mail, turn, IsTurn}
 use Rattle.mailbox_model.specs.Chats.{cites}
 use Rattle.mailbox_model.specs.Contacts.{gives_name, contact_name}
 use Rattle.mailbox_model.specs.Frames.{NameStays, Stays}
 use Rattle.mailbox_model.proofs.ListLaws.{key_self}
 use Rattle.mailbox_model.proofs.TurnLaws.{turn_law}
-use Rattle.touched_chats.specs.Reach.{is_moved, turned_uids, turned, is_near, is_turned, is_renamed, has_due, is_reached}
-use Rattle.touched_chats.proofs.Lists.{each_not, any_passing, not_inserted}
+use Rattle.touched_chats.specs.Suspects.{is_moved, is_near, is_turned, is_renamed, has_due, is_suspect}
+use Rattle.touched_chats.proofs.Lists.{each_not}
 use Rattle.touched_chats.proofs.Turned.{is_of, first_uid, second_uid, passing, none_turned, not_left, not_came}
 use Rattle.touched_chats.proofs.Moving.{Unmoved, unmoved_chat}
 use Rattle.touched_chats.proofs.Near.{is_in, far_before, far_apart}
@@ -138,22 +137,22 @@ record IsFree (m n : Mailbox) (turn : Turn) (key : ChatKey) : Type 0 where
   pub renamed : is_renamed m n turn key ≡ false
   pub due : has_due m n.now key ≡ false
 
-free_of : (m n : Mailbox) (turn : Turn) (key : ChatKey) → is_reached m n turn key ≡ false → IsFree m n turn key
+free_of : (m n : Mailbox) (turn : Turn) (key : ChatKey) → is_suspect m n turn key ≡ false → IsFree m n turn key
 free_of m n turn key h =
     let moves = or_parts (is_moved (cites m) (cites n) key) (is_turned m n turn key || (is_renamed m n turn key || has_due m n.now key)) h in
     let mails = or_parts (is_turned m n turn key) (is_renamed m n turn key || has_due m n.now key) moves.1 in
     let rest = or_parts (is_renamed m n turn key) (has_due m n.now key) mails.1 in
     record { moved = moves.0; turned = mails.0; renamed = rest.0; due = rest.1 }
 
-pub reached_mails : (m n : Mailbox) (turn : Turn) (key : ChatKey) → is_reached m n turn key ≡ false → is_turned m n turn key ≡ false
-reached_mails m n turn key h = (free_of m n turn key h).turned
+pub suspect_mails : (m n : Mailbox) (turn : Turn) (key : ChatKey) → is_suspect m n turn key ≡ false → is_turned m n turn key ≡ false
+suspect_mails m n turn key h = (free_of m n turn key h).turned
 
-pub turn_stays : (m n : Mailbox) (turn : Turn) (key : ChatKey) → m.me ≡ n.me → IsTurn m n turn → is_reached m n turn key ≡ false → Stays m n key
+pub turn_stays : (m n : Mailbox) (turn : Turn) (key : ChatKey) → m.me ≡ n.me → IsTurn m n turn → is_suspect m n turn key ≡ false → Stays m n key
 turn_stays m n turn key me is h =
     let free = free_of m n turn key h in
     by_turn m n key me (unmoved_chat m n key free.moved) turn is free.turned free.due
 
-pub turn_name_stays : (m n : Mailbox) (turn : Turn) (key : ChatKey) → IsTurn m n turn → is_reached m n turn key ≡ false → NameStays m n key
+pub turn_name_stays : (m n : Mailbox) (turn : Turn) (key : ChatKey) → IsTurn m n turn → is_suspect m n turn key ≡ false → NameStays m n key
 turn_name_stays m n turn key is h addr e =
     name_by_turn m n addr turn is (subst (λ k. is_renamed m n turn k ≡ false) e (free_of m n turn key h).renamed)
 
@@ -167,7 +166,7 @@ same_me m (Seen uid) = refl
 same_me m (At moment) = refl
 
 pub change_stays : (m : Mailbox) (change : Change) (key : ChatKey) → IsMailbox m
-    → is_reached m (after m change) (turn m change) key ≡ false → Stays m (after m change) key × NameStays m (after m change) key
+    → is_suspect m (after m change) (turn m change) key ≡ false → Stays m (after m change) key × NameStays m (after m change) key
 change_stays m change key k h =
     let is = turn_law m change k.uids in
     (turn_stays m (after m change) (turn m change) key (same_me m change) is h, turn_name_stays m (after m change) (turn m change) key is h)

@@ -1,5 +1,5 @@
 -- What is not true of any mail of a turn.
-use Rattle.std.proofs.Common.{◌≡◌, sym, ◌∙◌, ℕ, Bool, true, false, ◌||◌, ◌&&◌, List, [], ◌∷◌, ◌++◌}
+use Rattle.std.proofs.Common.{◌≡◌, sym, ◌∙◌, ℕ, Bool, true, false, ◌&&◌, List, [], ◌∷◌, ◌++◌}
 use Rattle.std.specs.Prelude.{nat_eq}
 use Rattle.std.specs.List.{list_any}
 use Rattle.std.proofs.lemmas.Bool.{or_parts, or_left, or_right, eq-eqb, false≢true}
@@ -8,7 +8,7 @@ use Rattle.mailbox_model.specs.declared.turn.Turn.{Turn}
 use Rattle.mailbox_model.specs.Mailbox.{Mailbox}
 use Rattle.mailbox_model.specs.Present.{Mail, mail_cmp, present}
 use Rattle.mailbox_model.specs.Turns.{with_mail}
-use Rattle.touched_chats.specs.Reach.{turned_uids, turned}
+use Rattle.touched_chats.specs.Suspects.{turned_uids, turned}
 use Rattle.touched_chats.proofs.Lists.{any_passing, not_inserted}
 
 abbrev pub is_of : Turn → Mail → Bool

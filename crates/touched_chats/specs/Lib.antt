@@ -1,5 +1,5 @@
 -- What public clauses cite.
 pub mod Touched
-pub mod Reach
+pub mod Suspects
 pub mod Costs
 pub mod Ahead

@@ -18,12 +18,12 @@ ghost use Rattle.mailbox_model.specs.ChatList.{list_row};
 ghost use Rattle.mailbox_model.specs.States.{chat_cards};
 ghost use Rattle.touched_chats.specs.Ahead.{entry_ahead, now_ahead, spot_ahead};
 ghost use Rattle.touched_chats.specs.Costs.{by_uid, cards_in, citing_unsettled, pairs_of, refold_reads, repair_cost, AreHeld};
-ghost use Rattle.touched_chats.specs.Reach.{is_reached};
+ghost use Rattle.touched_chats.specs.Suspects.{is_suspect};
 ghost use Rattle.touched_chats.specs.Touched.{IsTouched};
 
-/// A chat that a change does not reach stays as it is: nothing that is kept of it has to be looked at.
+/// A chat that is not suspect stays as it is: nothing that is kept of it has to be looked at.
 ///
-/// The turn of a change says how the present mails and the moment change (`changes_move_the_present`). A chat is reached
+/// The turn of a change says how the present mails and the moment change (`changes_move_the_present`). A chat is suspect
 /// where a card came into it or left it, where a mail that came, left or was marked is in it or names a card of it, where it
 /// is the chat with one other whose name such a mail changes, and where a shown row of it has expired.
 ///
@@ -34,30 +34,30 @@ ghost use Rattle.touched_chats.specs.Touched.{IsTouched};
 ///   marks, is the same.
 /// - `deadlines`: each shown card expires at the same moment.
 /// - `change`: all this is so for every change of a mailbox, be it an arrival, an expunge, a seen mark or a moment.
-pub fn a_chat_that_is_not_reached_stays()
+pub fn a_chat_that_is_not_suspect_stays()
     ensures stays { (m n : Mailbox) (turn : Turn) (key : ChatKey) → m.me ≡ n.me → IsTurn m n turn
-        → is_reached m n turn key ≡ false → Stays m n key }
-    ensures name { (m n : Mailbox) (turn : Turn) (key : ChatKey) → IsTurn m n turn → is_reached m n turn key ≡ false
+        → is_suspect m n turn key ≡ false → Stays m n key }
+    ensures name { (m n : Mailbox) (turn : Turn) (key : ChatKey) → IsTurn m n turn → is_suspect m n turn key ≡ false
         → NameStays m n key }
     ensures page { (m n : Mailbox) (turn : Turn) (key : ChatKey) → m.me ≡ n.me → IsTurn m n turn
-        → is_reached m n turn key ≡ false → page m key ≡ page n key }
+        → is_suspect m n turn key ≡ false → page m key ≡ page n key }
     ensures list { (m n : Mailbox) (turn : Turn) (key : ChatKey) → m.me ≡ n.me → IsTurn m n turn
-        → is_reached m n turn key ≡ false → list_row m key ≡ list_row n key }
+        → is_suspect m n turn key ≡ false → list_row m key ≡ list_row n key }
     ensures cards { (m n : Mailbox) (turn : Turn) (key : ChatKey) → m.me ≡ n.me → IsTurn m n turn
-        → is_reached m n turn key ≡ false → chat_cards m key ≡ chat_cards n key }
+        → is_suspect m n turn key ≡ false → chat_cards m key ≡ chat_cards n key }
     ensures deadlines { (m n : Mailbox) (turn : Turn) (key : ChatKey) → m.me ≡ n.me → IsTurn m n turn
-        → is_reached m n turn key ≡ false
+        → is_suspect m n turn key ≡ false
         → AllByRecursion (λ t. (if is_some (row m t) then expiry m.me t else None) ≡ (if is_some (row n t) then expiry n.me t else None)) (chat_mails m key) }
     ensures change { (m : Mailbox) (change : Change) (key : ChatKey) → IsMailbox m
-        → is_reached m (after m change) (turn m change) key ≡ false
+        → is_suspect m (after m change) (turn m change) key ≡ false
         → Stays m (after m change) key × NameStays m (after m change) key }
 {}
 
-/// Every chat that a change touches is one that it reaches. So a program that repairs the chats that are reached has all that
-/// show something of a changed mail, and all whose cards or page differ.
-pub fn a_touched_chat_is_reached()
+/// Every chat that a change touches is suspect. So a program that looks at the suspect chats has all that show something of a
+/// changed mail, and all whose cards or page differ.
+pub fn a_touched_chat_is_suspect()
     ensures { (m n : Mailbox) (turn : Turn) (key : ChatKey) → m.me ≡ n.me → IsTurn m n turn → IsTouched m n key
-        → is_reached m n turn key ≡ true }
+        → is_suspect m n turn key ≡ true }
 {}
 
 /// To fold touched chats anew costs no more than a repair may cost, in reads of kept cards.

@@ -5,5 +5,6 @@
 mod laws;
 
 pub use laws::{
-    a_change_is_told_ahead, a_chat_that_is_not_reached_stays, a_touched_chat_is_reached, refolds_fit_the_cost,
+    a_change_is_told_ahead, a_chat_that_is_not_suspect_stays, a_touched_chat_is_suspect,
+    refolds_fit_the_cost,
 };

@@ -1,7 +1,7 @@
 use Rattle.mailbox_model.proofs.FrameLaws.{page_stays, list_row_stays}
 use Rattle.touched_chats.proofs.Kept.{cards_stay, deadlines_stay}
 use Rattle.touched_chats.proofs.Staying.{turn_stays, turn_name_stays, change_stays}
-use Rattle.touched_chats.proofs.laws.a_chat_that_is_not_reached_stays.Goals as goal
+use Rattle.touched_chats.proofs.laws.a_chat_that_is_not_suspect_stays.Goals as goal
 
 pub returns-clause-stays : goal.returns-clause-stays
 returns-clause-stays c = turn_stays

@@ -1,5 +1,5 @@
--- Which chats a change may reach, told by what a program sees of it: by the turn, the cards of its mails, the chats that
--- moved, and the deadlines that are reached.
+-- Which chats a change may touch, told by what a program sees of it: by the cards that are in another chat than before, the
+-- mails of the turn, and the rows that expire.
 use Rattle.std.specs.Prelude.{ℕ, Bool, not, ◌||◌, ◌&&◌, nat_eq, is_some, List, [], ◌∷◌, ◌++◌, filter}
 use Rattle.std.specs.List.{list_any}
 use Rattle.std.specs.Str.{bytes_eq}
@@ -62,5 +62,5 @@ has_due m later key = list_any (is_due m later) (chat_mails m key)
 
 -- ---- by any of these
 
-abbrev pub is_reached : Mailbox → Mailbox → Turn → ChatKey → Bool
-is_reached m n turn key = is_moved (cites m) (cites n) key || (is_turned m n turn key || (is_renamed m n turn key || has_due m n.now key))
+abbrev pub is_suspect : Mailbox → Mailbox → Turn → ChatKey → Bool
+is_suspect m n turn key = is_moved (cites m) (cites n) key || (is_turned m n turn key || (is_renamed m n turn key || has_due m n.now key))
