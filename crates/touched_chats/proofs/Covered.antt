@@ -31,7 +31,7 @@ use Rattle.touched_chats.proofs.Staying.{turn_stays, turn_name_stays, suspect_ma
 
 -- ---- the same mail
 
-same_itself : (t : Mail) → is_same t t ≡ true
+pub same_itself : (t : Mail) → is_same t t ≡ true
 same_itself t =
     and_from (spot_eq (spot t.placed) (spot t.placed)) (option_eq nat_eq t.seen t.seen)
     (and_from (t.placed.date == t.placed.date) (bytes_eq t.placed.card.id t.placed.card.id && (t.placed.uid == t.placed.uid)) (eq-eqb t.placed.date t.placed.date refl)
@@ -42,14 +42,14 @@ same_itself t =
     seen None = refl
     seen (Some s) = eq-eqb s s refl
 
-same_ids : (a b : Mail) → is_same a b ≡ true → a.placed.card.id ≡ b.placed.card.id
+pub same_ids : (a b : Mail) → is_same a b ≡ true → a.placed.card.id ≡ b.placed.card.id
 same_ids a b h =
     let spots = and_parts (spot_eq (spot a.placed) (spot b.placed)) (option_eq nat_eq a.seen b.seen) h in
     let rest = and_parts (a.placed.date == b.placed.date) (bytes_eq a.placed.card.id b.placed.card.id && (a.placed.uid == b.placed.uid)) spots.0 in
     let ids = and_parts (bytes_eq a.placed.card.id b.placed.card.id) (a.placed.uid == b.placed.uid) rest.1 in
     (bytes_decides a.placed.card.id b.placed.card.id).0 ids.0
 
-All-weaker : {X : Type 0} (P Q : X → Type 0) → ((x : X) → P x → Q x) → (xs : List X) → AllByRecursion P xs → AllByRecursion Q xs
+pub All-weaker : {X : Type 0} (P Q : X → Type 0) → ((x : X) → P x → Q x) → (xs : List X) → AllByRecursion P xs → AllByRecursion Q xs
 All-weaker P Q f [] a = tt
 All-weaker P Q f (x ∷ xs) a = (f x a.0, All-weaker P Q f xs a.1)
 

@@ -11,3 +11,6 @@ pub mod Kept
 pub mod Covered
 pub mod Refolds
 pub mod Ahead
+pub mod Among
+pub mod Differing
+pub mod Exact

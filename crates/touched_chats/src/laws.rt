@@ -1,7 +1,7 @@
 //! Laws of what a change touches. Each is the contract of a function that does nothing: its clauses speak of every mailbox
 //! and every change.
-ghost use Rattle.std.specs.Prelude.{◌≡◌, ℕ, ◌≤◌, ◌+◌, ◌*◌, List, length, true, false, None, if◌then◌else◌, is_some};
-ghost use Rattle.std.specs.List.{AllByRecursion, IsDistinct};
+ghost use Rattle.std.specs.Prelude.{◌≡◌, ◌≢◌, ℕ, ◌≤◌, ◌+◌, ◌*◌, List, length, true, false, None, if◌then◌else◌, is_some};
+ghost use Rattle.std.specs.List.{list_any, AllByRecursion, IsDistinct};
 ghost use Rattle.card_type.specs.declared.key.ChatKey.{ChatKey};
 ghost use Rattle.card_type.specs.Keys.{key_eq};
 ghost use Rattle.mailbox_model.specs.declared.change.Change.{Change};
@@ -10,7 +10,7 @@ ghost use Rattle.mailbox_model.specs.Mailbox.{Mailbox, after, entry_at, IsMailbo
 ghost use Rattle.mailbox_model.specs.Lists.{Bytes};
 ghost use Rattle.mailbox_model.specs.Present.{spot_of};
 ghost use Rattle.mailbox_model.specs.Turns.{turn, IsTurn};
-ghost use Rattle.mailbox_model.specs.Chats.{chat_mails};
+ghost use Rattle.mailbox_model.specs.Chats.{chat_mails, cites};
 ghost use Rattle.mailbox_model.specs.Rows.{expiry, row};
 ghost use Rattle.mailbox_model.specs.Frames.{NameStays, Stays};
 ghost use Rattle.mailbox_model.specs.Pages.{page};
@@ -18,8 +18,8 @@ ghost use Rattle.mailbox_model.specs.ChatList.{list_row};
 ghost use Rattle.mailbox_model.specs.States.{chat_cards};
 ghost use Rattle.touched_chats.specs.Ahead.{entry_ahead, now_ahead, spot_ahead};
 ghost use Rattle.touched_chats.specs.Costs.{by_uid, cards_in, citing_unsettled, pairs_of, refold_reads, repair_cost, AreHeld};
-ghost use Rattle.touched_chats.specs.Suspects.{is_suspect};
-ghost use Rattle.touched_chats.specs.Touched.{IsTouched};
+ghost use Rattle.touched_chats.specs.Suspects.{is_moved, is_suspect, is_turned};
+ghost use Rattle.touched_chats.specs.Touched.{is_concerned, IsTouched};
 
 /// A chat that is not suspect stays as it is: nothing that is kept of it has to be looked at.
 ///
@@ -58,6 +58,18 @@ pub fn a_chat_that_is_not_suspect_stays()
 pub fn a_touched_chat_is_suspect()
     ensures { (m n : Mailbox) (turn : Turn) (key : ChatKey) → m.me ≡ n.me → IsTurn m n turn → IsTouched m n key
         → is_suspect m n turn key ≡ true }
+{}
+
+/// A suspect chat is touched.
+///
+/// - `moved`: where a card came into a chat or left it, the cards of the chat differ.
+/// - `turned`: where a mail that came, left or was marked is in a chat after the turn, or names a card of it, a card of that
+///   chat changed or is named by a mail that did.
+pub fn a_suspect_chat_is_touched()
+    ensures moved { (m n : Mailbox) (key : ChatKey) → is_moved (cites m) (cites n) key ≡ true
+        → chat_mails m key ≢ chat_mails n key }
+    ensures turned { (m n : Mailbox) (turn : Turn) (key : ChatKey) → IsMailbox m → IsMailbox n → IsTurn m n turn
+        → is_turned m n turn key ≡ true → list_any (is_concerned m n) (chat_mails n key) ≡ true }
 {}
 
 /// To fold touched chats anew costs no more than a repair may cost, in reads of kept cards.
