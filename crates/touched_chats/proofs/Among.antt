@@ -1,10 +1,10 @@
 -- One that is among others, which a test finds.
-use Rattle.std.proofs.Common.{◌≡◌, refl, sym, ap, ◌∙◌, subst, Bool, true, false, not, ◌||◌, ◌&&◌, cond, List, [], ◌∷◌, ◌++◌, map, ◌⊎◌, inl, inr}
+use Rattle.std.proofs.Common.{◌≡◌, refl, sym, ap, ◌∙◌, subst, Bool, true, false, ◌||◌, cond, List, [], ◌∷◌, ◌++◌, map, ◌⊎◌, inl, inr}
 use Rattle.std.specs.Prelude.{if◌then◌else◌, filter}
 use Rattle.std.specs.List.{list_any, AllByRecursion, IsDistinct}
 use Rattle.std.specs.declared.cmp.Ordering.{Ordering}
 use Rattle.std.specs.Ordering.{is_lt}
-use Rattle.std.proofs.lemmas.Bool.{both_ways, or_left, or_right, or_parts, false≢true}
+use Rattle.std.proofs.lemmas.Bool.{both_ways, or_left, or_right, false≢true}
 use Rattle.lists.specs.Sorted.{insert_by}
 
 abbrev pub Among : {X : Type 0} → X → List X → Type 0

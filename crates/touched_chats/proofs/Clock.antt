@@ -16,7 +16,7 @@ use Rattle.touched_chats.specs.Suspects.{is_due, has_due}
 use Rattle.touched_chats.proofs.Lists.{each_not}
 use Rattle.touched_chats.proofs.Near.{is_content_mail}
 
-still_late : (end : Option ℕ) (now later : ℕ) → now ≤ later → option_map_or (λ e. nat_le e now) end false ≡ true
+pub still_late : (end : Option ℕ) (now later : ℕ) → now ≤ later → option_map_or (λ e. nat_le e now) end false ≡ true
     → option_map_or (λ e. nat_le e later) end false ≡ true
 still_late None now later h late = late
 still_late (Some e) now later h late = grind (arith, nat_tests, late)
@@ -38,9 +38,12 @@ module _ (m n : Mailbox) (me : m.me ≡ n.me) (same : present m ≡ present n) (
   moved_rows [] a = tt
   moved_rows (t ∷ ts) a = (moved_row t a.0, moved_rows ts a.1)
 
+  pub moved_mails : (key : ChatKey) → chat_mails m key ≡ chat_mails n key
+  moved_mails key = λ i. filter (λ t. is_chat key (known_chat (chats_of (map (λ u. cites_by (me i) (spot u.placed) u.placed.card) (filter is_content_mail (same i)))) t.placed.card.id)) (filter is_content_mail (same i))
+
   pub clock_stays : (key : ChatKey) → has_due m n.now key ≡ false → Stays m n key
   clock_stays key h = record {
     me = me;
-    mails = λ i. filter (λ t. is_chat key (known_chat (chats_of (map (λ u. cites_by (me i) (spot u.placed) u.placed.card) (filter is_content_mail (same i)))) t.placed.card.id)) (filter is_content_mail (same i));
+    mails = moved_mails key;
     rows = moved_rows (chat_mails m key) (each_not (is_due m n.now) (chat_mails m key) h);
   }

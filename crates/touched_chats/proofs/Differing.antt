@@ -1,6 +1,6 @@
 -- Each mail of a turn changed: it is not the same before and after.
-use Rattle.std.proofs.Common.{◌≡◌, ◌≢◌, refl, sym, ap, ◌∙◌, subst, ℕ, Bool, true, false, not, ◌&&◌, Option, Some, None, List, [], ◌∷◌, ◌++◌, map, ◌⊎◌, inl, inr, ⊎_elim}
-use Rattle.std.specs.Prelude.{if◌then◌else◌, nat_eq, ◌==◌, filter}
+use Rattle.std.proofs.Common.{◌≡◌, ◌≢◌, refl, sym, ap, ◌∙◌, subst, ℕ, true, false, not, ◌&&◌, Option, Some, None, List, [], ◌∷◌, ◌++◌, ◌⊎◌, inl, inr, ⊎_elim}
+use Rattle.std.specs.Prelude.{if◌then◌else◌, nat_eq, ◌==◌}
 use Rattle.std.specs.List.{list_any, AllByRecursion, IsDistinct, Contains}
 use Rattle.std.specs.Option.{option_eq}
 use Rattle.std.specs.Str.{bytes_eq}
@@ -10,14 +10,14 @@ use Rattle.lists.proofs.OneMore.{none_alike}
 use Rattle.card_type.specs.Spots.{spot_eq}
 use Rattle.mailbox_model.specs.declared.turn.Turn.{Turn}
 use Rattle.mailbox_model.specs.declared.turn.Turn.TheVariants.{Nothing, Add, Remove, Replace, Marked, Moved}
-use Rattle.mailbox_model.specs.Mailbox.{Mailbox, marked_at, RiseBelow, IsMailbox}
+use Rattle.mailbox_model.specs.Mailbox.{Mailbox, marked_at, IsMailbox}
 use Rattle.mailbox_model.specs.Present.{Mail, spot, mail_cmp, same_uid, present}
 use Rattle.mailbox_model.specs.Turns.{is_mail, mark_mail, with_mail, IsTurn}
 use Rattle.mailbox_model.proofs.MailLaws.{bytes_turn, uid_alike}
 use Rattle.mailbox_model.proofs.UidLaws.{present_uids}
 use Rattle.touched_chats.specs.Touched.{is_same, only_in, changed}
 use Rattle.touched_chats.specs.Suspects.{turned_uids, turned}
-use Rattle.touched_chats.proofs.Among.{Among, IsFound, IsMapped, any_found, among_all, among_passing, passing_among, among_first, among_second, among_either, among_inserted, among_mapped, one_alike}
+use Rattle.touched_chats.proofs.Among.{Among, IsMapped, any_found, among_all, among_passing, passing_among, among_first, among_second, among_either, among_inserted, among_mapped, one_alike}
 use Rattle.touched_chats.proofs.Covered.{All-weaker}
 use Rattle.touched_chats.proofs.Turned.{is_of}
 

@@ -1,6 +1,6 @@
 -- A chat that is suspect by its cards or by a mail of the turn is touched.
-use Rattle.std.proofs.Common.{◌≡◌, ◌≢◌, refl, sym, ap, ◌∙◌, subst, Bool, true, false, not, ◌||◌, ◌&&◌, Option, Some, None, is_some, List, [], ◌∷◌, ◌++◌, map, ◌⊎◌, inl, inr, ⊎_elim}
-use Rattle.std.specs.Prelude.{if◌then◌else◌, filter, filter_map}
+use Rattle.std.proofs.Common.{◌≡◌, ◌≢◌, refl, sym, ap, ◌∙◌, subst, Bool, true, false, not, ◌||◌, ◌&&◌, Option, Some, None, is_some, List, [], ◌∷◌, ◌++◌, map, inl, inr, ⊎_elim}
+use Rattle.std.specs.Prelude.{if◌then◌else◌, filter_map}
 use Rattle.std.specs.List.{list_any, IsDistinct, cons_option}
 use Rattle.std.specs.Option.{option_eq}
 use Rattle.std.specs.Str.{bytes_eq}
@@ -10,7 +10,6 @@ use Rattle.lists.proofs.DistinctLaws.{IsDistinct-firsts}
 use Rattle.card_type.specs.declared.key.ChatKey.{ChatKey}
 use Rattle.card_type.specs.Effects.{is_among, names}
 use Rattle.card_type.specs.Keys.{key_eq}
-use Rattle.card_type.specs.Kinds.{kind_of, is_content}
 use Rattle.mailbox_model.specs.declared.links.Cites.{Cites}
 use Rattle.mailbox_model.specs.declared.links.Moved.{Moved}
 use Rattle.mailbox_model.specs.declared.turn.Turn.{Turn}
@@ -25,8 +24,7 @@ use Rattle.mailbox_model.proofs.MailLaws.{bytes_turn, is_alike}
 use Rattle.touched_chats.specs.Touched.{is_same, only_in, changed, is_or_names, is_concerned}
 use Rattle.touched_chats.specs.Suspects.{is_end, is_moved, is_near, is_turned, turned}
 use Rattle.touched_chats.proofs.Lists.{any_passing}
-use Rattle.touched_chats.proofs.Among.{Among, IsFound, found_any, any_found, among_passing, passing_among, among_first, among_either, one_alike}
-use Rattle.touched_chats.proofs.Moving.{Unmoved}
+use Rattle.touched_chats.proofs.Among.{Among, found_any, any_found, among_passing, passing_among, among_first, among_either, one_alike}
 use Rattle.touched_chats.proofs.Near.{is_in, is_content_mail}
 use Rattle.touched_chats.proofs.Covered.{same_itself, same_ids}
 use Rattle.touched_chats.proofs.Differing.{same_turn, turned_changed}

@@ -14,3 +14,6 @@ pub mod Ahead
 pub mod Among
 pub mod Differing
 pub mod Exact
+pub mod Due
+pub mod Renamed
+pub mod Suspected

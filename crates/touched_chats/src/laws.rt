@@ -1,6 +1,6 @@
 //! Laws of what a change touches. Each is the contract of a function that does nothing: its clauses speak of every mailbox
 //! and every change.
-ghost use Rattle.std.specs.Prelude.{◌≡◌, ◌≢◌, ℕ, ◌≤◌, ◌+◌, ◌*◌, List, length, true, false, None, if◌then◌else◌, is_some};
+ghost use Rattle.std.specs.Prelude.{◌≡◌, ◌||◌, ◌≢◌, ℕ, ◌≤◌, ◌+◌, ◌*◌, List, length, true, false, None, if◌then◌else◌, is_some};
 ghost use Rattle.std.specs.List.{list_any, AllByRecursion, IsDistinct};
 ghost use Rattle.card_type.specs.declared.key.ChatKey.{ChatKey};
 ghost use Rattle.card_type.specs.Keys.{key_eq};
@@ -18,8 +18,8 @@ ghost use Rattle.mailbox_model.specs.ChatList.{list_row};
 ghost use Rattle.mailbox_model.specs.States.{chat_cards};
 ghost use Rattle.touched_chats.specs.Ahead.{entry_ahead, now_ahead, spot_ahead};
 ghost use Rattle.touched_chats.specs.Costs.{by_uid, cards_in, citing_unsettled, pairs_of, refold_reads, repair_cost, AreHeld};
-ghost use Rattle.touched_chats.specs.Suspects.{is_moved, is_suspect, is_turned};
-ghost use Rattle.touched_chats.specs.Touched.{is_concerned, IsTouched};
+ghost use Rattle.touched_chats.specs.Suspects.{has_due, is_moved, is_renamed, is_suspect, is_turned};
+ghost use Rattle.touched_chats.specs.Touched.{has_chat, is_concerned, IsTouched};
 
 /// A chat that is not suspect stays as it is: nothing that is kept of it has to be looked at.
 ///
@@ -60,16 +60,27 @@ pub fn a_touched_chat_is_suspect()
         → is_suspect m n turn key ≡ true }
 {}
 
-/// A suspect chat is touched.
+/// A suspect chat that is there before or after is touched. So the suspect chats that are there are exactly the touched ones,
+/// and a program that tells them tells no chat in vain.
 ///
 /// - `moved`: where a card came into a chat or left it, the cards of the chat differ.
 /// - `turned`: where a mail that came, left or was marked is in a chat after the turn, or names a card of it, a card of that
 ///   chat changed or is named by a mail that did.
+/// - `renamed`: where such a mail changes the name of the one other of a chat, the page differs.
+/// - `due`: where a shown row has expired, the page differs.
+/// - `touched`: by any of these the chat is touched.
 pub fn a_suspect_chat_is_touched()
     ensures moved { (m n : Mailbox) (key : ChatKey) → is_moved (cites m) (cites n) key ≡ true
         → chat_mails m key ≢ chat_mails n key }
     ensures turned { (m n : Mailbox) (turn : Turn) (key : ChatKey) → IsMailbox m → IsMailbox n → IsTurn m n turn
         → is_turned m n turn key ≡ true → list_any (is_concerned m n) (chat_mails n key) ≡ true }
+    ensures renamed { (m n : Mailbox) (turn : Turn) (key : ChatKey) → IsMailbox m → IsMailbox n
+        → is_renamed m n turn key ≡ true → (has_chat m key || has_chat n key) ≡ true → page m key ≢ page n key }
+    ensures due { (m n : Mailbox) (turn : Turn) (key : ChatKey) → m.me ≡ n.me → IsTurn m n turn
+        → has_due m n.now key ≡ true → page m key ≢ page n key }
+    ensures touched { (m n : Mailbox) (turn : Turn) (key : ChatKey) → m.me ≡ n.me → IsMailbox m → IsMailbox n
+        → IsTurn m n turn → is_suspect m n turn key ≡ true → (has_chat m key || has_chat n key) ≡ true
+        → IsTouched m n key }
 {}
 
 /// To fold touched chats anew costs no more than a repair may cost, in reads of kept cards.
