@@ -1,53 +1,31 @@
 -- Where a chat is not suspect, no mail that changed is in it or names a card of it.
 use Rattle.std.proofs.Common.{◌≡◌, ◌≢◌, refl, sym, ap, ◌∙◌, subst, ℕ, Bool, true, false, not, ◌||◌, ◌&&◌, Option, Some, None, List, [], ◌∷◌, ◌++◌, map, ◌⊎◌, inl, inr}
-use Rattle.std.specs.Prelude.{if◌then◌else◌, nat_eq, ◌==◌, IfSome}
+use Rattle.std.specs.Prelude.{if◌then◌else◌, IfSome}
 use Rattle.std.specs.List.{list_any, AllByRecursion}
-use Rattle.std.specs.Option.{option_eq}
-use Rattle.std.specs.Str.{bytes_eq}
-use Rattle.std.specs.Cmp.Lexicographic.{bytes_decides}
-use Rattle.std.proofs.lemmas.Bool.{both_ways, and_parts, and_from, or_left, or_right, or_from, eq-eqb, false≢true, true_from_ne_false}
+use Rattle.std.proofs.lemmas.Bool.{both_ways, or_left, or_right, or_from, false≢true, true_from_ne_false}
 use Rattle.std.proofs.lemmas.List.Folds.{list_any-append}
 use Rattle.lists.proofs.Inserts.{All-insert_by, list_any-insert_by}
 use Rattle.lists.proofs.OneMore.{none_among}
 use Rattle.card_type.specs.declared.key.ChatKey.{ChatKey}
 use Rattle.card_type.specs.Effects.{is_among, names}
-use Rattle.card_type.specs.Spots.{spot_eq}
 use Rattle.mailbox_model.specs.declared.turn.Turn.{Turn}
 use Rattle.mailbox_model.specs.declared.turn.Turn.TheVariants.{Nothing, Add, Remove, Replace, Marked, Moved}
 use Rattle.mailbox_model.specs.Mailbox.{Mailbox, marked_at}
-use Rattle.mailbox_model.specs.Present.{Mail, spot, mail_cmp, present}
+use Rattle.mailbox_model.specs.Present.{Mail, mail_cmp, present}
 use Rattle.mailbox_model.specs.Turns.{is_mail, mark_mail, with_mail, IsTurn}
 use Rattle.mailbox_model.specs.Chats.{chat, is_chat, chat_mails}
-use Rattle.mailbox_model.proofs.ChatLaws.{same_bytes}
 use Rattle.mailbox_model.proofs.FrameLaws.{page_stays}
 use Rattle.mailbox_model.specs.Pages.{page}
 use Rattle.touched_chats.specs.Touched.{is_same, only_in, is_or_names, is_concerned, IsTouched}
 use Rattle.touched_chats.specs.Suspects.{is_near, is_suspect}
 use Rattle.touched_chats.proofs.Lists.{each_not, any_passing}
 use Rattle.touched_chats.proofs.Near.{is_in, far_apart, far_unnamed, each_in}
+use Rattle.touched_chats.proofs.SameMails.{same_itself, one_of}
 use Rattle.touched_chats.proofs.Turned.{is_of, first_uid, second_uid, none_turned}
 use Rattle.touched_chats.proofs.Beside.{with_maybe}
 use Rattle.touched_chats.proofs.Staying.{turn_stays, turn_name_stays, suspect_mails}
 
--- ---- the same mail
-
-pub same_itself : (t : Mail) → is_same t t ≡ true
-same_itself t =
-    and_from (spot_eq (spot t.placed) (spot t.placed)) (option_eq nat_eq t.seen t.seen)
-    (and_from (t.placed.date == t.placed.date) (bytes_eq t.placed.card.id t.placed.card.id && (t.placed.uid == t.placed.uid)) (eq-eqb t.placed.date t.placed.date refl)
-    (and_from (bytes_eq t.placed.card.id t.placed.card.id) (t.placed.uid == t.placed.uid) (same_bytes t.placed.card.id) (eq-eqb t.placed.uid t.placed.uid refl)))
-    (seen t.seen)
-  where
-    seen : (o : Option ℕ) → option_eq nat_eq o o ≡ true
-    seen None = refl
-    seen (Some s) = eq-eqb s s refl
-
-pub same_ids : (a b : Mail) → is_same a b ≡ true → a.placed.card.id ≡ b.placed.card.id
-same_ids a b h =
-    let spots = and_parts (spot_eq (spot a.placed) (spot b.placed)) (option_eq nat_eq a.seen b.seen) h in
-    let rest = and_parts (a.placed.date == b.placed.date) (bytes_eq a.placed.card.id b.placed.card.id && (a.placed.uid == b.placed.uid)) spots.0 in
-    let ids = and_parts (bytes_eq a.placed.card.id b.placed.card.id) (a.placed.uid == b.placed.uid) rest.1 in
-    (bytes_decides a.placed.card.id b.placed.card.id).0 ids.0
+-- ---- each mail is the same as itself
 
 pub All-weaker : {X : Type 0} (P Q : X → Type 0) → ((x : X) → P x → Q x) → (xs : List X) → AllByRecursion P xs → AllByRecursion Q xs
 All-weaker P Q f [] a = tt
@@ -165,7 +143,7 @@ module _ (m n : Mailbox) (turn : Turn) (key : ChatKey) (me : m.me ≡ n.me) (is 
   apart t there e far = or_from (is_same e t) (is_among (names e.placed.card) t.placed.card.id) (other (is_same e t) refl) (far_unnamed n key e far t there)
     where
       other : (b : Bool) → is_same e t ≡ b → b ≡ false
-      other true k = absurd (both_ways (is_in n key e) (far_apart n key e far) (ap (λ id. is_chat key (chat n id)) (same_ids e t k) ∙ there))
+      other true k = absurd (both_ways (is_in n key e) (far_apart n key e far) (ap (λ id. is_chat key (chat n id)) ((one_of e t k).id) ∙ there))
       other false k = refl
 
   unconcerned : (t : Mail) → is_in n key t ≡ true → is_concerned m n t ≡ false

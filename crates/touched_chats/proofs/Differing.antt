@@ -1,59 +1,23 @@
 -- Each mail of a turn changed: it is not the same before and after.
-use Rattle.std.proofs.Common.{◌≡◌, ◌≢◌, refl, sym, ap, ◌∙◌, subst, ℕ, true, false, not, ◌&&◌, Option, Some, None, List, [], ◌∷◌, ◌++◌, ◌⊎◌, inl, inr, ⊎_elim}
-use Rattle.std.specs.Prelude.{if◌then◌else◌, nat_eq, ◌==◌}
+use Rattle.std.proofs.Common.{◌≡◌, ◌≢◌, refl, sym, ap, ◌∙◌, subst, ℕ, true, false, not, Option, Some, None, is_some, List, [], ◌∷◌, ◌++◌, ◌⊎◌, inl, inr, ⊎_elim}
+use Rattle.std.specs.Prelude.{if◌then◌else◌, nat_eq}
 use Rattle.std.specs.List.{list_any, AllByRecursion, IsDistinct, Contains}
-use Rattle.std.specs.Option.{option_eq}
-use Rattle.std.specs.Str.{bytes_eq}
-use Rattle.std.proofs.lemmas.Bool.{both_ways, and_parts, and_from, eq-eqb, eqb-true, false_from_ne_true, false≢true}
+use Rattle.std.proofs.lemmas.Bool.{both_ways, eq-eqb, eqb-true, false_from_ne_true, false≢true}
 use Rattle.std.proofs.lemmas.List.Elements.{All-from_recursion, All-contains}
 use Rattle.lists.proofs.OneMore.{none_alike}
-use Rattle.card_type.specs.Spots.{spot_eq}
 use Rattle.mailbox_model.specs.declared.turn.Turn.{Turn}
 use Rattle.mailbox_model.specs.declared.turn.Turn.TheVariants.{Nothing, Add, Remove, Replace, Marked, Moved}
 use Rattle.mailbox_model.specs.Mailbox.{Mailbox, marked_at, IsMailbox}
-use Rattle.mailbox_model.specs.Present.{Mail, spot, mail_cmp, same_uid, present}
+use Rattle.mailbox_model.specs.Present.{Mail, mail_cmp, same_uid, present}
 use Rattle.mailbox_model.specs.Turns.{is_mail, mark_mail, with_mail, IsTurn}
-use Rattle.mailbox_model.proofs.MailLaws.{bytes_turn, uid_alike}
+use Rattle.mailbox_model.proofs.MailLaws.{uid_alike}
 use Rattle.mailbox_model.proofs.UidLaws.{present_uids}
 use Rattle.touched_chats.specs.Touched.{is_same, only_in, changed}
 use Rattle.touched_chats.specs.Suspects.{turned_uids, turned}
 use Rattle.touched_chats.proofs.Among.{Among, IsMapped, any_found, among_all, among_passing, passing_among, among_first, among_second, among_either, among_inserted, among_mapped, one_alike}
+use Rattle.touched_chats.proofs.SameMails.{one_of, same_turn}
 use Rattle.touched_chats.proofs.Covered.{All-weaker}
 use Rattle.touched_chats.proofs.Turned.{is_of}
-
--- ---- the same mail
-
-eqb_turn : (a b : ℕ) → (a == b) ≡ true → (b == a) ≡ true
-eqb_turn a b h = eq-eqb b a (sym (eqb-true a b h))
-
-seen_turn : (a b : Option ℕ) → option_eq nat_eq a b ≡ true → option_eq nat_eq b a ≡ true
-seen_turn None None h = refl
-seen_turn None (Some y) h = absurd (false≢true h)
-seen_turn (Some x) None h = absurd (false≢true h)
-seen_turn (Some x) (Some y) h = eqb_turn x y h
-
--- one spot and one moment
-record IsOne (a b : Mail) : Type 0 where
-  pub spots : spot_eq (spot a.placed) (spot b.placed) ≡ true
-  pub seen : option_eq nat_eq a.seen b.seen ≡ true
-  pub uid : a.placed.uid ≡ b.placed.uid
-
-one_of : (a b : Mail) → is_same a b ≡ true → IsOne a b
-one_of a b h =
-    let both = and_parts (spot_eq (spot a.placed) (spot b.placed)) (option_eq nat_eq a.seen b.seen) h in
-    let rest = and_parts (a.placed.date == b.placed.date) (bytes_eq a.placed.card.id b.placed.card.id && (a.placed.uid == b.placed.uid)) both.0 in
-    let ids = and_parts (bytes_eq a.placed.card.id b.placed.card.id) (a.placed.uid == b.placed.uid) rest.1 in
-    record { spots = both.0; seen = both.1; uid = eqb-true a.placed.uid b.placed.uid ids.1 }
-
-pub same_turn : (a b : Mail) → is_same a b ≡ true → is_same b a ≡ true
-same_turn a b h =
-    let both = and_parts (spot_eq (spot a.placed) (spot b.placed)) (option_eq nat_eq a.seen b.seen) h in
-    let rest = and_parts (a.placed.date == b.placed.date) (bytes_eq a.placed.card.id b.placed.card.id && (a.placed.uid == b.placed.uid)) both.0 in
-    let ids = and_parts (bytes_eq a.placed.card.id b.placed.card.id) (a.placed.uid == b.placed.uid) rest.1 in
-    and_from (spot_eq (spot b.placed) (spot a.placed)) (option_eq nat_eq b.seen a.seen)
-    (and_from (b.placed.date == a.placed.date) (bytes_eq b.placed.card.id a.placed.card.id && (b.placed.uid == a.placed.uid)) (eqb_turn a.placed.date b.placed.date rest.0)
-    (and_from (bytes_eq b.placed.card.id a.placed.card.id) (b.placed.uid == a.placed.uid) (bytes_turn b.placed.card.id a.placed.card.id ∙ ids.0) (eqb_turn a.placed.uid b.placed.uid ids.1)))
-    (seen_turn a.seen b.seen both.1)
 
 -- ---- where one comes or leaves, its uid is not on the other side
 
@@ -81,9 +45,9 @@ two_uids uid a b h =
     ⊎_elim (λ e. inl (is ∙ sym e)) (λ k. ⊎_elim (λ e. inr (is ∙ sym e)) (λ j. absurd j) k) f.among
 
 -- a mark shows
-unmarked_alone : (now : ℕ) (o : Option ℕ) → option_eq nat_eq None (marked_at now o) ≡ true → ⊥
-unmarked_alone now None h = false≢true h
-unmarked_alone now (Some s) h = false≢true h
+unmarked_alone : (now : ℕ) (o : Option ℕ) → None ≡ marked_at now o → ⊥
+unmarked_alone now None h = false≢true (ap is_some h)
+unmarked_alone now (Some s) h = false≢true (ap is_some h)
 
 each_among : (ts : List Mail) → AllByRecursion (λ t. Among t ts) ts
 each_among [] = tt
@@ -138,7 +102,7 @@ module _ (m n : Mailbox) (k : IsMailbox m) (l : IsMailbox n) where
       let it : t ≡ unseen = one_alike same_uid uid_alike.turn (present m) old_once t unseen old (contained (present m) unseen is.present.1) (eq-eqb t.placed.uid unseen.placed.uid (own ∙ sym is.present.2)) in
       let its : here.it.placed.uid ≡ uid = sym (mark_uid uid m.now here.it) ∙ ap (λ (u : Mail). u.placed.uid) here.is ∙ sym one.uid ∙ own in
       let seen : x.seen ≡ marked_at m.now here.it.seen = ap (λ (u : Mail). u.seen) (sym here.is) ∙ mark_seen uid m.now here.it its in
-      unmarked_alone m.now here.it.seen (sym (λ i. option_eq nat_eq ((ap (λ (u : Mail). u.seen) it ∙ is.present.3) i) (seen i)) ∙ one.seen)
+      unmarked_alone m.now here.it.seen (sym (ap (λ (u : Mail). u.seen) it ∙ is.present.3) ∙ one.seen ∙ seen)
   not_both (Moved moment) is t x old new of same = false≢true of
 
   -- so each changed

@@ -26,8 +26,8 @@ use Rattle.touched_chats.specs.Suspects.{is_end, is_moved, is_near, is_turned, t
 use Rattle.touched_chats.proofs.Lists.{any_passing}
 use Rattle.touched_chats.proofs.Among.{Among, found_any, any_found, among_passing, passing_among, among_first, among_either, one_alike}
 use Rattle.touched_chats.proofs.Near.{is_in, is_content_mail}
-use Rattle.touched_chats.proofs.Covered.{same_itself, same_ids}
-use Rattle.touched_chats.proofs.Differing.{same_turn, turned_changed}
+use Rattle.touched_chats.proofs.SameMails.{same_itself, one_of, same_turn}
+use Rattle.touched_chats.proofs.Differing.{turned_changed}
 
 -- ---- a chat has a card with an id just where that id is in the chat
 
@@ -92,7 +92,7 @@ no_end key id a b same = by (option_eq key_eq a b) refl
     by false e = let no = neither (is_chat key a) refl e in rw (no, sym same ∙ no) refl
 
 module _ (key : ChatKey) (before after : List Cites) (same : (id : Bytes) → is_chat key (chat_among before id) ≡ is_chat key (chat_among after id)) where
-  none_moved : (ts : List Cites) → list_any (is_end key) (filter_map (λ t. moved t.spot.id (chat_among before t.spot.id) (chat_among after t.spot.id)) ts) ≡ false
+  pub none_moved : (ts : List Cites) → list_any (is_end key) (filter_map (λ t. moved t.spot.id (chat_among before t.spot.id) (chat_among after t.spot.id)) ts) ≡ false
   none_moved [] = refl
   none_moved (t ∷ ts) =
       first (moved t.spot.id (chat_among before t.spot.id) (chat_among after t.spot.id)) (no_end key t.spot.id (chat_among before t.spot.id) (chat_among after t.spot.id) (same t.spot.id)) (none_moved ts)
@@ -133,7 +133,7 @@ module _ (m n : Mailbox) (key : ChatKey) (e : Mail) (e_changed : Among e (change
       from_old h k =
           let left = passing_among (λ u. not (list_any (is_same u) (present n))) e (present m) k in
           let f = any_found (is_same c) (present m) h in
-          let one : f.it ≡ e = one_alike same_id is_alike.turn (present m) (once m) f.it e f.among left.0 (ap (λ id. bytes_eq id e.placed.card.id) (sym (same_ids c f.it f.passes)) ∙ bytes_turn c.placed.card.id e.placed.card.id ∙ same) in
+          let one : f.it ≡ e = one_alike same_id is_alike.turn (present m) (once m) f.it e f.among left.0 (ap (λ id. bytes_eq id e.placed.card.id) (sym ((one_of c f.it f.passes).id)) ∙ bytes_turn c.placed.card.id e.placed.card.id ∙ same) in
           let back : is_same e c ≡ true = same_turn c e (ap (is_same c) (sym one) ∙ f.passes) in
           absurd (both_ways (list_any (is_same e) (present n)) (not-true (list_any (is_same e) (present n)) left.1) (found_any (is_same e) c (present n) new back))
 

@@ -8,6 +8,7 @@ pub mod Marking
 pub mod Clock
 pub mod Staying
 pub mod Kept
+pub mod SameMails
 pub mod Covered
 pub mod Refolds
 pub mod Ahead
@@ -17,3 +18,4 @@ pub mod Exact
 pub mod Due
 pub mod Renamed
 pub mod Suspected
+pub mod Telling

@@ -13,7 +13,7 @@ use Rattle.mailbox_model.specs.declared.links.Cites.{Cites}
 use Rattle.mailbox_model.specs.declared.links.Moved.{Moved}
 use Rattle.mailbox_model.specs.Lists.{Bytes}
 use Rattle.mailbox_model.specs.Mailbox.{Mailbox}
-use Rattle.mailbox_model.specs.Chats.{chat, chat_among, cites, is_chat, is_id_among, moved}
+use Rattle.mailbox_model.specs.Chats.{chat, chat_among, cites, is_chat, is_id_among, moved, moves}
 use Rattle.mailbox_model.proofs.ChatLaws.{is_some-known_chat}
 use Rattle.mailbox_model.proofs.ListLaws.{key_same}
 use Rattle.touched_chats.specs.Suspects.{is_end, is_moved}
@@ -70,14 +70,23 @@ module _ (key : ChatKey) (before after : List Cites) where
       none None e = refl
       none (Some x) e = absurd (false≢true (sym e))
 
-  pub unmoved_ids : is_moved before after key ≡ false → (id : Bytes) → StaysIn id
-  unmoved_ids h id = by (is_id_among (before ++ after) id) refl
+  -- by the moves of any that have all ids
+  pub unmoved_among : (all : List Cites) → ((id : Bytes) → is_id_among all id ≡ false → is_id_among before id ≡ false)
+      → ((id : Bytes) → is_id_among all id ≡ false → is_id_among after id ≡ false)
+      → list_any (is_end key) (moves all before after) ≡ false → (id : Bytes) → StaysIn id
+  unmoved_among all old new h id = by (is_id_among all id) refl
     where
-      by : (b : Bool) → is_id_among (before ++ after) id ≡ b → StaysIn id
-      by true e = at_id (before ++ after) id h e
-      by false e =
-          let parts = or_parts (is_id_among before id) (is_id_among after id) (sym (list_any-append (λ t. bytes_eq id t.spot.id) before after) ∙ e) in
-          ap (is_chat key) (no_chat before id parts.0 ∙ sym (no_chat after id parts.1))
+      by : (b : Bool) → is_id_among all id ≡ b → StaysIn id
+      by true e = at_id all id h e
+      by false e = ap (is_chat key) (no_chat before id (old id e) ∙ sym (no_chat after id (new id e)))
+
+  -- both have all
+  pub in_both : (id : Bytes) → is_id_among (before ++ after) id ≡ false → (is_id_among before id ≡ false) × (is_id_among after id ≡ false)
+  in_both id e =
+      or_parts (is_id_among before id) (is_id_among after id) (sym (list_any-append (λ t. bytes_eq id t.spot.id) before after) ∙ e)
+
+  pub unmoved_ids : is_moved before after key ≡ false → (id : Bytes) → StaysIn id
+  unmoved_ids h id = unmoved_among (before ++ after) (λ i e. (in_both i e).0) (λ i e. (in_both i e).1) h id
 
 pub unmoved_chat : (m n : Mailbox) (key : ChatKey) → is_moved (cites m) (cites n) key ≡ false → Unmoved m n key
 unmoved_chat m n key h = unmoved_ids key (cites m) (cites n) h

@@ -8,11 +8,13 @@ use Rattle.std.proofs.lemmas.List.Sums.{sum_by-cons, sum_by-append}
 use Rattle.card_type.specs.declared.key.ChatKey.{ChatKey}
 use Rattle.card_type.specs.Effects.{is_among, names}
 use Rattle.card_type.specs.Keys.{key_eq}
+use Rattle.mailbox_model.specs.Lists.{Bytes}
 use Rattle.mailbox_model.specs.Mailbox.{Mailbox}
 use Rattle.mailbox_model.specs.Present.{Placed, Mail, same_uid, present, contents}
 use Rattle.mailbox_model.specs.Chats.{chat, is_chat, chat_mails}
 use Rattle.mailbox_model.proofs.ListLaws.{key_same, key_turn}
-use Rattle.touched_chats.specs.Costs.{by_uid, is_in_any, cards_in, citing_unsettled, times_named, pairs_of, row_reads, refold_reads, repair_cost, AreHeld}
+use Rattle.touched_chats.specs.Touched.{IsTouched, HoldsTouched}
+use Rattle.touched_chats.specs.Costs.{by_uid, is_in_any, cards_in, citing_unsettled, times_named_among, pairs_of, row_reads, refold_reads, repair_cost, AreHeld}
 
 -- ---- a sum over the elements that pass one of two tests, no element both
 
@@ -106,16 +108,20 @@ in_any_more m (key ∷ keys) held a t h =
 abbrev others : List Mail → List Mail → List Mail
 others xs ys = filter (λ y. not (list_any (same_uid y) xs)) ys
 
--- some name a card, and some more
-more_named : (xs ys : List Mail) (t : Mail) → times_named xs t ≤ times_named (xs ++ ys) t
-more_named xs ys t = omega (arith, both)
+-- some name an id, and some more
+more_named : (xs ys : List Mail) (id : Bytes) → times_named_among xs id ≤ times_named_among (xs ++ ys) id
+more_named xs ys id = omega (arith, both)
   where
     one : Placed → ℕ
-    one e = cond (is_among (names e.card) t.placed.card.id) 1 0
+    one e = cond (is_among (names e.card) id) 1 0
 
-    both : times_named (xs ++ ys) t ≡ times_named xs t + times_named ys t
+    both : times_named_among (xs ++ ys) id ≡ times_named_among xs id + times_named_among ys id
     both =
         ap (sum_by one) (map-append (λ e. e.placed) xs ys) ∙ sum_by-append one (map (λ e. e.placed) xs) (map (λ e. e.placed) ys)
+
+-- how many name a card, of those that are present after or before
+abbrev named_by_any : Mailbox → Mailbox → Mail → ℕ
+named_by_any m n t = times_named_among (by_uid (present n) (present m)) t.placed.card.id
 
 -- a card, and those that name it, among the present ones of after and before
 each_named : (m n : Mailbox) (ts : List Mail) → sum_by (row_reads n) ts ≤ length ts + pairs_of m n ts
@@ -123,8 +129,8 @@ each_named m n [] = omega arith
 each_named m n (t ∷ ts) =
     let rest = each_named m n ts in
     let left = sum_by-cons (row_reads n) t ts in
-    let right = sum_by-cons (times_named (by_uid (present n) (present m))) t ts in
-    let more = more_named (present n) (others (present n) (present m)) t in
+    let right = sum_by-cons (named_by_any m n) t ts in
+    let more = more_named (present n) (others (present n) (present m)) t.placed.card.id in
     omega (arith, rest, left, right, more)
 
 pub reads_fit : (m n : Mailbox) (keys held : List ChatKey) → IsDistinct key_eq keys → AreHeld held keys
@@ -133,7 +139,7 @@ reads_fit m n keys held d a =
     let xs = filter (is_in_any n held) (contents n) in
     let ys = others xs (filter (is_in_any m held) (contents m)) in
     let zs = others (cards_in m n held) (citing_unsettled m n) in
-    let g : Mail → ℕ = times_named (by_uid (present n) (present m)) in
+    let g : Mail → ℕ = named_by_any m n in
     let by_chat = sum_of_chats n (row_reads n) keys d in
     let wider = sum_more (row_reads n) (is_in_any n keys) (is_in_any n held) (in_any_more n keys held a) (contents n) in
     let each = each_named m n xs in
@@ -142,6 +148,12 @@ reads_fit m n keys held d a =
     let parted = sum_by-append g xs ys in
     omega (arith, by_chat, wider, each, long, paired, parted)
 
-pub cost_fits : (m n : Mailbox) (keys held : List ChatKey) → IsDistinct key_eq keys → AreHeld held keys
+all_held : (m n : Mailbox) (held : List ChatKey) → HoldsTouched m n held → (keys : List ChatKey) → AllByRecursion (IsTouched m n) keys → AreHeld held keys
+all_held m n held all [] a = tt
+all_held m n held all (key ∷ keys) a = (all key a.0, all_held m n held all keys a.1)
+
+pub cost_fits : (m n : Mailbox) (keys held : List ChatKey) → IsDistinct key_eq keys → AllByRecursion (IsTouched m n) keys → HoldsTouched m n held
     → 4 * refold_reads n keys + 16 ≤ repair_cost m n held
-cost_fits m n keys held d a = let fits = reads_fit m n keys held d a in omega (arith, fits)
+cost_fits m n keys held d a all =
+    let fits = reads_fit m n keys held d (all_held m n held all keys a) in
+    omega (arith, fits)

@@ -37,13 +37,13 @@ cites_unsettled m n t = list_any (λ id. not (is_settled m n id)) (candidates t.
 abbrev pub citing_unsettled : Mailbox → Mailbox → List Mail
 citing_unsettled m n = filter (cites_unsettled m n) (by_uid (contents n) (contents m))
 
--- how many of these mails name a card
-abbrev pub times_named : List Mail → Mail → ℕ
-times_named es t = count_by (λ e. is_among (names e.card) t.placed.card.id) (map (λ e. e.placed) es)
+-- how many of these mails name an id
+abbrev pub times_named_among : List Mail → Bytes → ℕ
+times_named_among es id = count_by (λ e. is_among (names e.card) id) (map (λ e. e.placed) es)
 
 -- e: the pairs of one of these and a mail that is present after or before and names it
 abbrev pub pairs_of : Mailbox → Mailbox → List Mail → ℕ
-pairs_of m n ts = sum_by (times_named (by_uid (present n) (present m))) ts
+pairs_of m n ts = sum_by (λ t. times_named_among (by_uid (present n) (present m)) t.placed.card.id) ts
 
 -- where these are the touched chats
 abbrev pub repair_cost : Mailbox → Mailbox → List ChatKey → ℕ
@@ -55,7 +55,7 @@ repair_cost m n held =
 -- ---- what folding chats anew reads: each card, and for each the cards that name it
 
 abbrev pub row_reads : Mailbox → Mail → ℕ
-row_reads m t = 1 + times_named (present m) t
+row_reads m t = 1 + times_named_among (present m) t.placed.card.id
 
 abbrev pub chat_reads : Mailbox → ChatKey → ℕ
 chat_reads m key = sum_by (row_reads m) (chat_mails m key)

@@ -37,3 +37,7 @@ has_chat m key = list_any (key_eq key) (keys m)
 pub record IsTouched (m n : Mailbox) (key : ChatKey) : Type 0 where
   pub there : (has_chat m key || has_chat n key) ≡ true
   pub why : (list_any (is_concerned m n) (chat_mails m key ++ chat_mails n key) ≡ true) ⊎ ((chat_mails m key ≢ chat_mails n key) ⊎ (page m key ≢ page n key))
+
+-- each touched chat is among these
+abbrev pub HoldsTouched : Mailbox → Mailbox → List ChatKey → Type 0
+HoldsTouched m n held = (key : ChatKey) → IsTouched m n key → list_any (key_eq key) held ≡ true

@@ -1,16 +1,17 @@
 //! Laws of what a change touches. Each is the contract of a function that does nothing: its clauses speak of every mailbox
 //! and every change.
-ghost use Rattle.std.specs.Prelude.{◌≡◌, ◌||◌, ◌≢◌, ℕ, ◌≤◌, ◌+◌, ◌*◌, List, length, true, false, None, if◌then◌else◌, is_some};
+ghost use Rattle.std.specs.Prelude.{◌≡◌, ◌<◌, ◌==◌, find, IfSome, Option, Some, ◌||◌, ◌≢◌, ℕ, ◌≤◌, ◌+◌, ◌*◌, List, length, true, false, None, if◌then◌else◌, is_some};
 ghost use Rattle.std.specs.List.{list_any, AllByRecursion, IsDistinct};
 ghost use Rattle.card_type.specs.declared.key.ChatKey.{ChatKey};
 ghost use Rattle.card_type.specs.Keys.{key_eq};
 ghost use Rattle.mailbox_model.specs.declared.change.Change.{Change};
+ghost use Rattle.mailbox_model.specs.declared.links.Cites.{Cites};
 ghost use Rattle.mailbox_model.specs.declared.turn.Turn.{Turn};
 ghost use Rattle.mailbox_model.specs.Mailbox.{Mailbox, after, entry_at, IsMailbox};
 ghost use Rattle.mailbox_model.specs.Lists.{Bytes};
-ghost use Rattle.mailbox_model.specs.Present.{spot_of};
+ghost use Rattle.mailbox_model.specs.Present.{contents, spot_of};
 ghost use Rattle.mailbox_model.specs.Turns.{turn, IsTurn};
-ghost use Rattle.mailbox_model.specs.Chats.{chat_mails, cites};
+ghost use Rattle.mailbox_model.specs.Chats.{chat_mails, cites, is_id_among, moves};
 ghost use Rattle.mailbox_model.specs.Rows.{expiry, row};
 ghost use Rattle.mailbox_model.specs.Frames.{NameStays, Stays};
 ghost use Rattle.mailbox_model.specs.Pages.{page};
@@ -18,8 +19,8 @@ ghost use Rattle.mailbox_model.specs.ChatList.{list_row};
 ghost use Rattle.mailbox_model.specs.States.{chat_cards};
 ghost use Rattle.touched_chats.specs.Ahead.{entry_ahead, now_ahead, spot_ahead};
 ghost use Rattle.touched_chats.specs.Costs.{by_uid, cards_in, citing_unsettled, pairs_of, refold_reads, repair_cost, AreHeld};
-ghost use Rattle.touched_chats.specs.Suspects.{has_due, is_moved, is_renamed, is_suspect, is_turned};
-ghost use Rattle.touched_chats.specs.Touched.{has_chat, is_concerned, IsTouched};
+ghost use Rattle.touched_chats.specs.Suspects.{has_due, is_end, is_moved, is_renamed, is_suspect, is_turned};
+ghost use Rattle.touched_chats.specs.Touched.{has_chat, is_concerned, HoldsTouched, IsTouched};
 
 /// A chat that is not suspect stays as it is: nothing that is kept of it has to be looked at.
 ///
@@ -83,18 +84,43 @@ pub fn a_suspect_chat_is_touched()
         → IsTouched m n key }
 {}
 
+/// What a program is told of moves, and the deadlines that it keeps, tell which chats are suspect.
+///
+/// - `moves`: the moves that are told for any cards among which are all from before and after, such as those of
+///   `Links::add` and `Links::remove`, tell which chats a card came into or left.
+/// - `between`: where one card leaves and then another one comes, a chat that a card came into or left in all is one that a
+///   card came into or left by one of both.
+/// - `due`: where no deadline that is left is reached, and those of the cards of a chat are all left, no shown row of the chat
+///   has expired.
+/// - `uid`: each content mail is found by its uid, so that the deadline under a uid is that of its mail.
+pub fn moves_and_deadlines_tell_the_suspects()
+    ensures moves { (all before after : List Cites) (key : ChatKey)
+        → ((id : Bytes) → is_id_among all id ≡ false → is_id_among before id ≡ false)
+        → ((id : Bytes) → is_id_among all id ≡ false → is_id_among after id ≡ false)
+        → list_any (is_end key) (moves all before after) ≡ is_moved before after key }
+    ensures between { (before between after : List Cites) (key : ChatKey) → is_moved before after key ≡ true
+        → (is_moved before between key || is_moved between after key) ≡ true }
+    ensures due { (m : Mailbox) (key : ChatKey) (moment : ℕ) (left : ℕ → Option ℕ)
+        → ((uid : ℕ) → IfSome (left uid) (λ end. moment < end))
+        → AllByRecursion (λ t. left t.placed.uid ≡ (if is_some (row m t) then expiry m.me t else None)) (chat_mails m key)
+        → has_due m moment key ≡ false }
+    ensures uid { (m : Mailbox) → IsMailbox m
+        → AllByRecursion (λ t. find (λ u. u.placed.uid == t.placed.uid) (contents m) ≡ Some t) (contents m) }
+{}
+
 /// To fold touched chats anew costs no more than a repair may cost, in reads of kept cards.
 ///
-/// Of different chats, each among `held`, each card is read once, and for each card once each present card that names it.
+/// Of different chats, each card is read once, and for each card once each present card that names it.
 ///
-/// - `reads`: these are no more than the cards of the chats of `held`, before or after, and the pairs of such a card and a
-///   card that names it.
-/// - `cost`: so four times as many, and 16 more, are within the cost of a repair, where `held` are the touched chats.
+/// - `reads`: where each of these chats is among `held`, these are no more than the cards of the chats of `held`, before or
+///   after, and the pairs of such a card and a card that names it.
+/// - `cost`: so where each is touched, and `held` has all touched chats, four times as many, and 16 more, are within the cost
+///   of a repair.
 pub fn refolds_fit_the_cost()
     ensures reads { (m n : Mailbox) (keys held : List ChatKey) → IsDistinct key_eq keys → AreHeld held keys
         → refold_reads n keys ≤ length (cards_in m n held) + pairs_of m n (by_uid (cards_in m n held) (citing_unsettled m n)) }
-    ensures cost { (m n : Mailbox) (keys held : List ChatKey) → IsDistinct key_eq keys → AreHeld held keys
-        → 4 * refold_reads n keys + 16 ≤ repair_cost m n held }
+    ensures cost { (m n : Mailbox) (keys held : List ChatKey) → IsDistinct key_eq keys → AllByRecursion (IsTouched m n) keys
+        → HoldsTouched m n held → 4 * refold_reads n keys + 16 ≤ repair_cost m n held }
 {}
 
 /// What a change leaves is known before it is made, so that a program may repair first and change the mailbox last.

@@ -5,6 +5,6 @@
 mod laws;
 
 pub use laws::{
-    a_change_is_told_ahead, a_chat_that_is_not_suspect_stays, a_touched_chat_is_suspect,
-    refolds_fit_the_cost,
+    a_change_is_told_ahead, a_chat_that_is_not_suspect_stays, a_suspect_chat_is_touched,
+    a_touched_chat_is_suspect, moves_and_deadlines_tell_the_suspects, refolds_fit_the_cost,
 };

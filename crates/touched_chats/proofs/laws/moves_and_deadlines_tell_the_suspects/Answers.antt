@@ -1,0 +1,14 @@
+use Rattle.touched_chats.proofs.Telling.{moves_tell, moved_once, none_due, contents_by_uid}
+use Rattle.touched_chats.proofs.laws.moves_and_deadlines_tell_the_suspects.Goals as goal
+
+pub returns-clause-moves : goal.returns-clause-moves
+returns-clause-moves c = moves_tell
+
+pub returns-clause-between : goal.returns-clause-between
+returns-clause-between c = moved_once
+
+pub returns-clause-due : goal.returns-clause-due
+returns-clause-due c = none_due
+
+pub returns-clause-uid : goal.returns-clause-uid
+returns-clause-uid c = contents_by_uid
