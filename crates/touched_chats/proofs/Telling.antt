@@ -1,11 +1,14 @@
 -- What is told of moves, and of deadlines that are left, tells which chats are suspect.
-use Rattle.std.proofs.Common.{◌≡◌, refl, sym, ◌∙◌, subst, ℕ, ◌<◌, Bool, true, false, ◌||◌, ◌&&◌, Option, Some, None, is_some, List, [], ◌∷◌, ◌++◌, arith}
-use Rattle.std.specs.Prelude.{if◌then◌else◌, IfSome, nat_le, find, ◌==◌}
+use Rattle.std.proofs.Common.{◌≡◌, refl, sym, ap, ◌∙◌, subst, ℕ, ◌<◌, Bool, true, false, ◌||◌, ◌&&◌, Option, Some, None, is_some, List, [], ◌∷◌, ◌++◌, arith}
+use Rattle.std.specs.Prelude.{filter, if◌then◌else◌, IfSome, nat_le, find, ◌==◌}
 use Rattle.std.specs.List.{list_any, AllByRecursion, IsDistinct}
 use Rattle.std.specs.Option.{option_map_or}
+use Rattle.std.specs.Str.{bytes_eq}
 use Rattle.std.proofs.lemmas.Bool.{or_parts, eq-eqb, true_from_ne_false, both_ways}
 use Rattle.std.proofs.lemmas.Bool.Decides.{nat_tests}
+use Rattle.lists.specs.Sorted.{insert_by}
 use Rattle.lists.proofs.DistinctLaws.{IsDistinct-filter}
+use Rattle.lists.proofs.Inserts.{All-filter, list_any-insert_by}
 use Rattle.lists.proofs.OneMore.{none_among}
 use Rattle.card_type.specs.declared.key.ChatKey.{ChatKey}
 use Rattle.mailbox_model.specs.declared.links.Cites.{Cites}
@@ -13,10 +16,11 @@ use Rattle.mailbox_model.specs.declared.row.Row.{Row}
 use Rattle.mailbox_model.specs.Lists.{Bytes}
 use Rattle.mailbox_model.specs.Mailbox.{Mailbox, IsMailbox}
 use Rattle.mailbox_model.specs.Present.{Mail, same_uid, present, contents}
-use Rattle.mailbox_model.specs.Chats.{chat_mails, is_id_among, moves}
+use Rattle.mailbox_model.specs.Chats.{cites_cmp, chat_mails, is_id_among, moves}
 use Rattle.mailbox_model.specs.Rows.{expiry, row}
 use Rattle.mailbox_model.proofs.UidLaws.{present_uids}
 use Rattle.touched_chats.specs.Suspects.{is_end, is_moved, is_due, has_due}
+use Rattle.touched_chats.proofs.Lists.{each_not}
 use Rattle.touched_chats.proofs.Moving.{unmoved_among, unmoved_ids}
 use Rattle.touched_chats.proofs.Near.{is_content_mail}
 use Rattle.touched_chats.proofs.Exact.{none_moved}
@@ -24,7 +28,7 @@ use Rattle.touched_chats.proofs.Exact.{none_moved}
 -- ---- moves
 
 -- the moves of any list that has all ids
-pub moves_tell : (all before after : List Cites) (key : ChatKey)
+moves_tell : (all before after : List Cites) (key : ChatKey)
     → ((id : Bytes) → is_id_among all id ≡ false → is_id_among before id ≡ false)
     → ((id : Bytes) → is_id_among all id ≡ false → is_id_among after id ≡ false)
     → list_any (is_end key) (moves all before after) ≡ is_moved before after key
@@ -38,6 +42,27 @@ moves_tell all before after key old new =
     alike true false f g = g refl
     alike false true f g = sym (f refl)
     alike false false f g = refl
+
+-- those of the cards after, where one came
+pub added_tell : (c : Cites) (before after : List Cites) (key : ChatKey) → after ≡ insert_by cites_cmp c before
+    → list_any (is_end key) (moves after before after) ≡ is_moved before after key
+added_tell c before after key is = moves_tell after before after key old (λ id e. e)
+  where
+    old : (id : Bytes) → is_id_among after id ≡ false → is_id_among before id ≡ false
+    old id e =
+        (or_parts (bytes_eq id c.spot.id) (is_id_among before id)
+        (sym (ap (λ ts. is_id_among ts id) is ∙ list_any-insert_by cites_cmp (λ t. bytes_eq id t.spot.id) c before) ∙ e)).1
+
+-- those of the cards before, where some left
+pub removed_tell : (p : Cites → Bool) (before after : List Cites) (key : ChatKey) → after ≡ filter p before
+    → list_any (is_end key) (moves before before after) ≡ is_moved before after key
+removed_tell p before after key is = moves_tell before before after key (λ id e. e) new
+  where
+    new : (id : Bytes) → is_id_among before id ≡ false → is_id_among after id ≡ false
+    new id e =
+        ap (λ ts. is_id_among ts id) is
+        ∙ none_among (λ t. bytes_eq id t.spot.id) (filter p before)
+        (All-filter (λ t. bytes_eq id t.spot.id ≡ false) p before (each_not (λ t. bytes_eq id t.spot.id) before e))
 
 -- of two changes in a row, one of them
 pub moved_once : (before between after : List Cites) (key : ChatKey) → is_moved before after key ≡ true

@@ -1,17 +1,18 @@
 //! Laws of what a change touches. Each is the contract of a function that does nothing: its clauses speak of every mailbox
 //! and every change.
-ghost use Rattle.std.specs.Prelude.{◌≡◌, ◌<◌, ◌==◌, find, IfSome, Option, Some, ◌||◌, ◌≢◌, ℕ, ◌≤◌, ◌+◌, ◌*◌, List, length, true, false, None, if◌then◌else◌, is_some};
+ghost use Rattle.std.specs.Prelude.{◌≡◌, ◌↔◌, Bool, filter, ◌<◌, ◌==◌, find, IfSome, Option, Some, ◌||◌, ◌≢◌, ℕ, ◌≤◌, ◌+◌, ◌*◌, List, length, true, false, None, if◌then◌else◌, is_some};
 ghost use Rattle.std.specs.List.{list_any, AllByRecursion, IsDistinct};
+ghost use Rattle.lists.specs.Sorted.{insert_by};
 ghost use Rattle.card_type.specs.declared.key.ChatKey.{ChatKey};
 ghost use Rattle.card_type.specs.Keys.{key_eq};
 ghost use Rattle.mailbox_model.specs.declared.change.Change.{Change};
 ghost use Rattle.mailbox_model.specs.declared.links.Cites.{Cites};
 ghost use Rattle.mailbox_model.specs.declared.turn.Turn.{Turn};
-ghost use Rattle.mailbox_model.specs.Mailbox.{Mailbox, after, entry_at, IsMailbox};
+ghost use Rattle.mailbox_model.specs.Mailbox.{Mailbox, after, entry_at, full, IsMailbox, IsValidChange};
 ghost use Rattle.mailbox_model.specs.Lists.{Bytes};
 ghost use Rattle.mailbox_model.specs.Present.{contents, spot_of};
 ghost use Rattle.mailbox_model.specs.Turns.{turn, IsTurn};
-ghost use Rattle.mailbox_model.specs.Chats.{chat_mails, cites, is_id_among, moves};
+ghost use Rattle.mailbox_model.specs.Chats.{chat_mails, cites, cites_cmp, moves};
 ghost use Rattle.mailbox_model.specs.Rows.{expiry, row};
 ghost use Rattle.mailbox_model.specs.Frames.{NameStays, Stays};
 ghost use Rattle.mailbox_model.specs.Pages.{page};
@@ -70,6 +71,7 @@ pub fn a_touched_chat_is_suspect()
 /// - `renamed`: where such a mail changes the name of the one other of a chat, the page differs.
 /// - `due`: where a shown row has expired, the page differs.
 /// - `touched`: by any of these the chat is touched.
+/// - `exact`: so it is for every change that a mailbox allows, and no other chat is touched.
 pub fn a_suspect_chat_is_touched()
     ensures moved { (m n : Mailbox) (key : ChatKey) → is_moved (cites m) (cites n) key ≡ true
         → chat_mails m key ≢ chat_mails n key }
@@ -82,22 +84,26 @@ pub fn a_suspect_chat_is_touched()
     ensures touched { (m n : Mailbox) (turn : Turn) (key : ChatKey) → m.me ≡ n.me → IsMailbox m → IsMailbox n
         → IsTurn m n turn → is_suspect m n turn key ≡ true → (has_chat m key || has_chat n key) ≡ true
         → IsTouched m n key }
+    ensures exact { (m : Mailbox) (change : Change) (key : ChatKey) → IsMailbox m → IsValidChange change
+        → full m change ≡ false → IsTouched m (after m change) key
+        ↔ ((is_suspect m (after m change) (turn m change) key ≡ true) × ((has_chat m key || has_chat (after m change) key) ≡ true)) }
 {}
 
 /// What a program is told of moves, and the deadlines that it keeps, tell which chats are suspect.
 ///
-/// - `moves`: the moves that are told for any cards among which are all from before and after, such as those of
-///   `Links::add` and `Links::remove`, tell which chats a card came into or left.
+/// - `add`: where a card came, the moves of the cards after it, as `Links::add` gives them, tell which chats a card came into
+///   or left.
+/// - `remove`: where cards left, so do the moves of the cards before, as `Links::remove` gives them.
 /// - `between`: where one card leaves and then another one comes, a chat that a card came into or left in all is one that a
 ///   card came into or left by one of both.
 /// - `due`: where no deadline that is left is reached, and those of the cards of a chat are all left, no shown row of the chat
 ///   has expired.
 /// - `uid`: each content mail is found by its uid, so that the deadline under a uid is that of its mail.
 pub fn moves_and_deadlines_tell_the_suspects()
-    ensures moves { (all before after : List Cites) (key : ChatKey)
-        → ((id : Bytes) → is_id_among all id ≡ false → is_id_among before id ≡ false)
-        → ((id : Bytes) → is_id_among all id ≡ false → is_id_among after id ≡ false)
-        → list_any (is_end key) (moves all before after) ≡ is_moved before after key }
+    ensures add { (c : Cites) (before after : List Cites) (key : ChatKey) → after ≡ insert_by cites_cmp c before
+        → list_any (is_end key) (moves after before after) ≡ is_moved before after key }
+    ensures remove { (p : Cites → Bool) (before after : List Cites) (key : ChatKey) → after ≡ filter p before
+        → list_any (is_end key) (moves before before after) ≡ is_moved before after key }
     ensures between { (before between after : List Cites) (key : ChatKey) → is_moved before after key ≡ true
         → (is_moved before between key || is_moved between after key) ≡ true }
     ensures due { (m : Mailbox) (key : ChatKey) (moment : ℕ) (left : ℕ → Option ℕ)

@@ -1,8 +1,11 @@
-use Rattle.touched_chats.proofs.Telling.{moves_tell, moved_once, none_due, contents_by_uid}
+use Rattle.touched_chats.proofs.Telling.{added_tell, removed_tell, moved_once, none_due, contents_by_uid}
 use Rattle.touched_chats.proofs.laws.moves_and_deadlines_tell_the_suspects.Goals as goal
 
-pub returns-clause-moves : goal.returns-clause-moves
-returns-clause-moves c = moves_tell
+pub returns-clause-add : goal.returns-clause-add
+returns-clause-add c = added_tell
+
+pub returns-clause-remove : goal.returns-clause-remove
+returns-clause-remove c = removed_tell
 
 pub returns-clause-between : goal.returns-clause-between
 returns-clause-between c = moved_once
