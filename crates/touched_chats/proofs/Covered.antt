@@ -40,7 +40,7 @@ each_there (t ∷ ts) =
 
 module _ (turn : Turn) where
   -- t is the same among others, or one of the turn
-  abbrev pub AreSameBut : List Mail → List Mail → Type 0
+  abbrev AreSameBut : List Mail → List Mail → Type 0
   AreSameBut others ts = AllByRecursion (λ t. (list_any (is_same t) others || is_of turn t) ≡ true) ts
 
   same_but : (others ts : List Mail) → AllByRecursion (λ t. list_any (is_same t) others ≡ true) ts → AreSameBut others ts
@@ -100,7 +100,7 @@ module _ (uid now : ℕ) where
       new t (inl e) = is_marked (mark_mail uid now t) (t ∷ ts) (marked_uid t ∙ e)
       new t (inr e) = same_or_marked (mark_mail uid now t) (t ∷ ts) (or_left (is_same (mark_mail uid now t) t) (list_any (is_same (mark_mail uid now t)) ts) (ap (λ u. is_same u t) e ∙ same_itself t))
 
-pub others_same : (m n : Mailbox) (turn : Turn) → IsTurn m n turn → AreSameBut turn (present n) (present m) × AreSameBut turn (present m) (present n)
+others_same : (m n : Mailbox) (turn : Turn) → IsTurn m n turn → AreSameBut turn (present n) (present m) × AreSameBut turn (present m) (present n)
 others_same m n Nothing is = beside_both Nothing None None (present m) (present m) (present n) refl is.present tt tt
 others_same m n (Add at) is =
     let t = is.present.0 in

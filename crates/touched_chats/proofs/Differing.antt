@@ -75,7 +75,7 @@ module _ (m n : Mailbox) (k : IsMailbox m) (l : IsMailbox n) where
       → Lacks t.placed.uid (present m) ⊎ Lacks t.placed.uid (present n) → ⊥
   apart turn t x old new same lacks = ⊎_elim (λ none. none t old refl) (λ none. none x new same) lacks
 
-  pub not_both : (turn : Turn) → IsTurn m n turn → (t x : Mail) → Among t (present m) → Among x (present n) → is_of turn t ≡ true → is_same t x ≡ true → ⊥
+  not_both : (turn : Turn) → IsTurn m n turn → (t x : Mail) → Among t (present m) → Among x (present n) → is_of turn t ≡ true → is_same t x ≡ true → ⊥
   not_both Nothing is t x old new of same = false≢true of
   not_both (Add at) is t x old new of same =
       let own = one_uid t.placed.uid at.uid of ∙ ap (λ s. s.uid) (sym is.present.1) in

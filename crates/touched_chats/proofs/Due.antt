@@ -65,7 +65,7 @@ module _ (f g : Mail → Option Row) where
       let here = counted (is_some (f t)) (is_some (g t)) a.0 in
       omega (arith, rest, one, two, here)
 
-  pub fewer : (ts : List Mail) → AllByRecursion (GivesLess f g) ts → list_any (λ t. is_some (g t) && not (is_some (f t))) ts ≡ true
+  fewer : (ts : List Mail) → AllByRecursion (GivesLess f g) ts → list_any (λ t. is_some (g t) && not (is_some (f t))) ts ≡ true
       → length (filter_map f ts) < length (filter_map g ts)
   fewer [] a h = absurd (false≢true h)
   fewer (t ∷ ts) a h = by (is_some (f t)) (is_some (g t)) refl refl (fewer ts a.1) h

@@ -58,7 +58,7 @@ ids_of_cites : (me : Bytes) (ts : List Mail) (id : Bytes) → is_id_among (map (
 ids_of_cites me [] id = refl
 ids_of_cites me (t ∷ ts) id = ap (λ b. bytes_eq id t.placed.card.id || b) (ids_of_cites me ts id)
 
-pub has_in_chat : (m : Mailbox) (key : ChatKey) (id : Bytes) → list_any (has_id id) (chat_mails m key) ≡ is_chat key (chat m id)
+has_in_chat : (m : Mailbox) (key : ChatKey) (id : Bytes) → list_any (has_id id) (chat_mails m key) ≡ is_chat key (chat m id)
 has_in_chat m key id =
     any_passing (has_id id) (is_in m key) (contents m)
     ∙ by_id (λ i. is_chat key (chat m i)) id (contents m)
@@ -142,7 +142,7 @@ module _ (m n : Mailbox) (key : ChatKey) (e : Mail) (e_changed : Among e (change
       by false h =
           by_mail c c (among_first c (only_in (present n) (present m)) (only_in (present m) (present n)) (among_passing (λ u. not (list_any (is_same u) (present m))) c (present n) new (ap not h))) itself
 
-  pub near_concerned : is_near n key e ≡ true → list_any (is_concerned m n) (chat_mails n key) ≡ true
+  near_concerned : is_near n key e ≡ true → list_any (is_concerned m n) (chat_mails n key) ≡ true
   near_concerned h =
       let id = any_found (λ id. is_chat key (chat n id)) (e.placed.card.id ∷ names e.placed.card) h in
       let c = any_found (has_id id.it) (chat_mails n key) (has_in_chat n key id.it ∙ id.passes) in

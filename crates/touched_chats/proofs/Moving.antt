@@ -81,7 +81,7 @@ module _ (key : ChatKey) (before after : List Cites) where
       by false e = ap (is_chat key) (no_chat before id (old id e) ∙ sym (no_chat after id (new id e)))
 
   -- both have all
-  pub in_both : (id : Bytes) → is_id_among (before ++ after) id ≡ false → (is_id_among before id ≡ false) × (is_id_among after id ≡ false)
+  in_both : (id : Bytes) → is_id_among (before ++ after) id ≡ false → (is_id_among before id ≡ false) × (is_id_among after id ≡ false)
   in_both id e =
       or_parts (is_id_among before id) (is_id_among after id) (sym (list_any-append (λ t. bytes_eq id t.spot.id) before after) ∙ e)
 

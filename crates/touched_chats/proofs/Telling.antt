@@ -1,5 +1,5 @@
 -- What is told of moves, and of deadlines that are left, tells which chats are suspect.
-use Rattle.std.proofs.Common.{◌≡◌, refl, sym, ap, ◌∙◌, subst, ℕ, ◌<◌, Bool, true, false, ◌||◌, ◌&&◌, Option, Some, None, is_some, List, [], ◌∷◌, ◌++◌, arith}
+use Rattle.std.proofs.Common.{◌≡◌, refl, sym, ap, ◌∙◌, subst, ℕ, ◌<◌, Bool, true, false, ◌||◌, ◌&&◌, Option, Some, None, is_some, List, [], ◌∷◌, ◌++◌, arith, ◌⊎◌, inl, inr}
 use Rattle.std.specs.Prelude.{filter, if◌then◌else◌, IfSome, nat_le, find, ◌==◌}
 use Rattle.std.specs.List.{list_any, AllByRecursion, IsDistinct}
 use Rattle.std.specs.Option.{option_map_or}
@@ -13,16 +13,20 @@ use Rattle.lists.proofs.OneMore.{none_among}
 use Rattle.card_type.specs.declared.key.ChatKey.{ChatKey}
 use Rattle.mailbox_model.specs.declared.links.Cites.{Cites}
 use Rattle.mailbox_model.specs.declared.row.Row.{Row}
+use Rattle.mailbox_model.specs.declared.turn.Turn.{Turn}
 use Rattle.mailbox_model.specs.Lists.{Bytes}
 use Rattle.mailbox_model.specs.Mailbox.{Mailbox, IsMailbox}
-use Rattle.mailbox_model.specs.Present.{Mail, same_uid, present, contents}
+use Rattle.mailbox_model.specs.Present.{Mail, mail_at, same_uid, present, contents}
 use Rattle.mailbox_model.specs.Chats.{cites_cmp, chat_mails, is_id_among, moves}
 use Rattle.mailbox_model.specs.Rows.{expiry, row}
-use Rattle.mailbox_model.proofs.UidLaws.{present_uids}
-use Rattle.touched_chats.specs.Suspects.{is_end, is_moved, is_due, has_due}
+use Rattle.mailbox_model.proofs.Elements.{All-append}
+use Rattle.mailbox_model.proofs.UidLaws.{present_own, present_uids}
+use Rattle.touched_chats.specs.Suspects.{is_end, is_moved, is_due, has_due, turned}
 use Rattle.touched_chats.proofs.Lists.{each_not}
 use Rattle.touched_chats.proofs.Moving.{unmoved_among, unmoved_ids}
 use Rattle.touched_chats.proofs.Near.{is_content_mail}
+use Rattle.touched_chats.proofs.Turned.{is_of}
+use Rattle.touched_chats.proofs.Covered.{All-weaker}
 use Rattle.touched_chats.proofs.Exact.{none_moved}
 
 -- ---- moves
@@ -108,3 +112,16 @@ each_by_uid (t ∷ ts) d = (rw (eq-eqb t.placed.uid t.placed.uid refl) refl, beh
 
 pub contents_by_uid : (m : Mailbox) → IsMailbox m → AllByRecursion (λ t. find (λ u. u.placed.uid == t.placed.uid) (contents m) ≡ Some t) (contents m)
 contents_by_uid m k = each_by_uid (contents m) (IsDistinct-filter same_uid is_content_mail (present m) (present_uids m k.uids))
+
+-- ---- mails
+
+pub turned_own : (m n : Mailbox) (turn : Turn) → IsMailbox m → IsMailbox n
+    → AllByRecursion (λ t. (mail_at m t.placed.uid ≡ Some t) ⊎ (mail_at n t.placed.uid ≡ Some t)) (turned m n turn)
+turned_own m n turn k l =
+    All-filter Own (is_of turn) (present m ++ present n)
+    (All-append Own (present m) (present n)
+    (All-weaker (λ t. mail_at m t.placed.uid ≡ Some t) Own (λ t e. inl e) (present m) (present_own m k.uids))
+    (All-weaker (λ t. mail_at n t.placed.uid ≡ Some t) Own (λ t e. inr e) (present n) (present_own n l.uids)))
+  where
+    Own : Mail → Type 0
+    Own t = (mail_at m t.placed.uid ≡ Some t) ⊎ (mail_at n t.placed.uid ≡ Some t)

@@ -1,6 +1,6 @@
 //! Laws of what a change touches. Each is the contract of a function that does nothing: its clauses speak of every mailbox
 //! and every change.
-ghost use Rattle.std.specs.Prelude.{◌≡◌, ◌↔◌, Bool, filter, ◌<◌, ◌==◌, find, IfSome, Option, Some, ◌||◌, ◌≢◌, ℕ, ◌≤◌, ◌+◌, ◌*◌, List, length, true, false, None, if◌then◌else◌, is_some};
+ghost use Rattle.std.specs.Prelude.{◌≡◌, ◌⊎◌, ◌↔◌, Bool, filter, ◌<◌, ◌==◌, find, IfSome, Option, Some, ◌||◌, ◌≢◌, ℕ, ◌≤◌, ◌+◌, ◌*◌, List, length, true, false, None, if◌then◌else◌, is_some};
 ghost use Rattle.std.specs.List.{list_any, AllByRecursion, IsDistinct};
 ghost use Rattle.lists.specs.Sorted.{insert_by};
 ghost use Rattle.card_type.specs.declared.key.ChatKey.{ChatKey};
@@ -10,7 +10,7 @@ ghost use Rattle.mailbox_model.specs.declared.links.Cites.{Cites};
 ghost use Rattle.mailbox_model.specs.declared.turn.Turn.{Turn};
 ghost use Rattle.mailbox_model.specs.Mailbox.{Mailbox, after, entry_at, full, IsMailbox, IsValidChange};
 ghost use Rattle.mailbox_model.specs.Lists.{Bytes};
-ghost use Rattle.mailbox_model.specs.Present.{contents, spot_of};
+ghost use Rattle.mailbox_model.specs.Present.{contents, mail_at, spot_of};
 ghost use Rattle.mailbox_model.specs.Turns.{turn, IsTurn};
 ghost use Rattle.mailbox_model.specs.Chats.{chat_mails, cites, cites_cmp, moves};
 ghost use Rattle.mailbox_model.specs.Rows.{expiry, row};
@@ -20,7 +20,7 @@ ghost use Rattle.mailbox_model.specs.ChatList.{list_row};
 ghost use Rattle.mailbox_model.specs.States.{chat_cards};
 ghost use Rattle.touched_chats.specs.Ahead.{entry_ahead, now_ahead, spot_ahead};
 ghost use Rattle.touched_chats.specs.Costs.{by_uid, cards_in, citing_unsettled, pairs_of, refold_reads, repair_cost, AreHeld};
-ghost use Rattle.touched_chats.specs.Suspects.{has_due, is_end, is_moved, is_renamed, is_suspect, is_turned};
+ghost use Rattle.touched_chats.specs.Suspects.{has_due, is_end, is_moved, is_renamed, is_suspect, is_turned, turned};
 ghost use Rattle.touched_chats.specs.Touched.{has_chat, is_concerned, HoldsTouched, IsTouched};
 
 /// A chat that is not suspect stays as it is: nothing that is kept of it has to be looked at.
@@ -89,7 +89,7 @@ pub fn a_suspect_chat_is_touched()
         ↔ ((is_suspect m (after m change) (turn m change) key ≡ true) × ((has_chat m key || has_chat (after m change) key) ≡ true)) }
 {}
 
-/// What a program is told of moves, and the deadlines that it keeps, tell which chats are suspect.
+/// What a program is told of moves, the deadlines that it keeps, and the uids of a turn tell which chats are suspect.
 ///
 /// - `add`: where a card came, the moves of the cards after it, as `Links::add` gives them, tell which chats a card came into
 ///   or left.
@@ -99,6 +99,7 @@ pub fn a_suspect_chat_is_touched()
 /// - `due`: where no deadline that is left is reached, and those of the cards of a chat are all left, no shown row of the chat
 ///   has expired.
 /// - `uid`: each content mail is found by its uid, so that the deadline under a uid is that of its mail.
+/// - `mails`: each mail of a turn is the one with its uid, before or after.
 pub fn moves_and_deadlines_tell_the_suspects()
     ensures add { (c : Cites) (before after : List Cites) (key : ChatKey) → after ≡ insert_by cites_cmp c before
         → list_any (is_end key) (moves after before after) ≡ is_moved before after key }
@@ -112,6 +113,8 @@ pub fn moves_and_deadlines_tell_the_suspects()
         → has_due m moment key ≡ false }
     ensures uid { (m : Mailbox) → IsMailbox m
         → AllByRecursion (λ t. find (λ u. u.placed.uid == t.placed.uid) (contents m) ≡ Some t) (contents m) }
+    ensures mails { (m n : Mailbox) (turn : Turn) → IsMailbox m → IsMailbox n
+        → AllByRecursion (λ t. (mail_at m t.placed.uid ≡ Some t) ⊎ (mail_at n t.placed.uid ≡ Some t)) (turned m n turn) }
 {}
 
 /// To fold touched chats anew costs no more than a repair may cost, in reads of kept cards.
