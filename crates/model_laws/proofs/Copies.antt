@@ -1,6 +1,6 @@
 -- A further copy of a mail changes no answer.
 use Rattle.std.proofs.Common.{◌≡◌, refl, sym, ap, ◌∙◌, subst, ℕ, ◌<◌, ◌≤◌, Bool, true, false, not, ◌&&◌, ◌||◌, cond, Option, Some, None, Ok, List, [], ◌∷◌, arith, inl, inr}
-use Rattle.std.specs.Prelude.{if◌then◌else◌, find, filter_map, Result, Err}
+use Rattle.std.specs.Prelude.{find, filter_map, Result, Err}
 use Rattle.std.specs.List.{AllByRecursion, cons_option, list_any}
 use Rattle.std.specs.Result.{result_ok}
 use Rattle.std.specs.declared.cmp.Ordering.TheVariants.{Equal, Greater}
@@ -14,20 +14,19 @@ use Rattle.std.proofs.lemmas.List.Elements.{filter_map-append}
 use Rattle.std.proofs.lemmas.List.Sorted.{list_any-IsPermutation}
 use Rattle.kit.specs.Options.{◌>>=◌}
 use Rattle.lists.specs.Distinct.{firsts}
-use Rattle.lists.proofs.Rising.{firsts-insert_by}
+use Rattle.lists.proofs.Rising.{is_preceded}
 use Rattle.card_type.specs.declared.card.Card.{Card}
 use Rattle.mailbox_model.specs.declared.change.Change.TheVariants.{Arrive}
 use Rattle.mailbox_model.specs.declared.change.Fault.{Fault}
-use Rattle.mailbox_model.specs.declared.turn.Turn.TheVariants.{Nothing, Replace}
-use Rattle.mailbox_model.specs.Mailbox.{Mailbox, Entry, has_uid, new_entry, card_at, after, IsEntry, IsMailbox, RiseBelow}
-use Rattle.mailbox_model.specs.Present.{Mail, effective_date, placed_by, mail_by, mail_of, spot, mail_cmp, mails, has_id, same_id, present}
-use Rattle.mailbox_model.specs.Turns.{arriving, Turns}
+use Rattle.mailbox_model.specs.Mailbox.{Mailbox, Entry, has_uid, new_entry, card_at, after, IsEntry, IsMailbox}
+use Rattle.mailbox_model.specs.Present.{Mail, effective_date, placed_by, mail_by, mail_of, mail_cmp, mails, has_id, same_id, present}
+use Rattle.mailbox_model.specs.Turns.{arriving}
 use Rattle.mailbox_model.specs.ChatList.{fault_by, list_page}
 use Rattle.mailbox_model.specs.Answers.{Question, answer}
-use Rattle.mailbox_model.proofs.MailLaws.{is_below, is_alike, line_of, mails-arrive}
+use Rattle.mailbox_model.proofs.MailLaws.{order, is_alike, mails-arrive}
 use Rattle.mailbox_model.proofs.PresentLaws.{mails_all}
-use Rattle.mailbox_model.proofs.TurnLaws.{arrive_turn}
 use Rattle.mailbox_model.proofs.UidLaws.{below}
+use Rattle.model_laws.proofs.InOrder.{firsts_hidden, found_present, mails_in_order}
 use Rattle.model_laws.proofs.Parts.{same_parts}
 
 -- a mail with a card adds no fault
@@ -36,19 +35,31 @@ faults-arrive m card =
     let faults = filter_map (λ entry. fault_by entry.uid entry.read) m.entries in
     filter_map-append (λ entry. fault_by entry.uid entry.read) m.entries (new_entry m (Ok card) ∷ []) ∙ append-nil faults
 
--- it gives way to the present one
-gives_way : (m : Mailbox) (card : Card) (t : Mail) → RiseBelow 1 m.entries m.next_uid
-    → find (has_id card.id) (present m) ≡ Some t → is_lt (mail_cmp (arriving m card) t) ≡ false
-    → present (after m (Arrive card)) ≡ present m
-gives_way m card t u e h =
-    subst (λ b. Turns (present m) (present (after m (Arrive card))) m.now (if b then Replace (spot t.placed) (spot (arriving m card).placed) else Nothing)) h
-    (arrive_turn m card u (Some t) e)
+-- what was found and is no later hides it
+found_hides : (y t : Mail) (zs : List Mail) → find (same_id y) zs ≡ Some t → is_lt (mail_cmp y t) ≡ false
+    → is_preceded same_id mail_cmp y zs ≡ true
+found_hides y t [] e h = cc
+found_hides y t (z ∷ zs) e h =
+    elim (same_id y z) as (λ b. cond b (Some z) (find (same_id y) zs) ≡ Some t → ((b && not (is_lt (mail_cmp y z))) || is_preceded same_id mail_cmp y zs) ≡ true) [
+      | true ↦ λ k. let same : z ≡ t = cc in rw (ap (λ x. is_lt (mail_cmp y x)) same ∙ h) refl
+      | false ↦ λ k. found_hides y t zs k h
+    ] e
 
-pub later_copy : (m : Mailbox) (card : Card) (t : Mail) → IsMailbox m → find (has_id card.id) (present m) ≡ Some t
+-- what is hidden changes nothing
+hidden_copy : (m : Mailbox) (card : Card) → is_preceded same_id mail_cmp (arriving m card) (mails m) ≡ true
+    → (question : Question) → answer (after m (Arrive card)) question ≡ answer m question
+hidden_copy m card h question =
+    let stays : present (after m (Arrive card)) ≡ present m =
+    ap (firsts same_id) (mails-arrive m card)
+    ∙ firsts_hidden mail_cmp order same_id is_alike (arriving m card) (mails m) h (mails_in_order m) in
+    same_parts (after m (Arrive card)) m refl refl stays (faults-arrive m card) question
+
+pub later_copy : (m : Mailbox) (card : Card) (t : Mail) → find (has_id card.id) (present m) ≡ Some t
     → is_lt (mail_cmp (arriving m card) t) ≡ false
     → (question : Question) → answer (after m (Arrive card)) question ≡ answer m question
-later_copy m card t k e h question =
-    same_parts (after m (Arrive card)) m refl refl (gives_way m card t k.uids e h) (faults-arrive m card) question
+later_copy m card t e h question =
+    let y = arriving m card in
+    hidden_copy m card (found_hides y t (mails m) (sym (found_present y (mails m)) ∙ e) h) question
 
 -- ---- a card that comes again
 
@@ -115,7 +126,4 @@ module _ (m : Mailbox) (card : Card) where
       → (question : Question) → answer (after m (Arrive card)) question ≡ answer m question
   same_again uid k e question =
       let all = sym (list_any-IsPermutation hides (filter_map mail_of m.entries) (mails m) (mails_all m)) ∙ one_hides uid m.entries e k.each (below 1 m.next_uid m.entries k.uids).1 in
-      let stays : present (after m (Arrive card)) ≡ present m =
-      ap (firsts same_id) (mails-arrive m card)
-      ∙ firsts-insert_by same_id mail_cmp is_alike is_below y (mails m) (line_of m k.uids).rising ∙ rw all refl in
-      same_parts (after m (Arrive card)) m refl refl stays (faults-arrive m card) question
+      hidden_copy m card all question

@@ -1,5 +1,7 @@
 -- Lemmas of this crate's laws, and rows that compute.
 mod Maps
+mod Filters
+mod InOrder
 mod OneOrder
 pub mod Parts
 pub mod Copies

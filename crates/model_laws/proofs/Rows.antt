@@ -160,6 +160,20 @@ earlier_copy : answer (box (noon ∷ Arrive M1 ∷ Arrive M2 ∷ [])) AllChats
 unfolding time_text civil_date span_and_rest digits chars encode
 earlier_copy = refl
 
+-- no mailbox: its mail came after its moment, and so the copy takes its place
+abbrev from_ahead : Mailbox
+from_ahead =
+    record { me = me; now = 1714564800; next_uid = 2; entries = record { uid = 1; arrival = 1714564860; seen = None; read = Ok Undated } ∷ [] }
+
+from_ahead_alone : answer from_ahead AllChats ≡ Some (codes "single:bob@x.org | Bob | fresh 1 | 2024-05-01 12:01 | Now\n")
+unfolding time_text civil_date span_and_rest digits chars encode
+from_ahead_alone = refl
+
+from_ahead_again : answer (after from_ahead (Arrive Undated)) AllChats
+    ≡ Some (codes "single:bob@x.org | Bob | fresh 1 | 2024-05-01 12:00 | Now\n")
+unfolding time_text civil_date span_and_rest digits chars encode
+from_ahead_again = refl
+
 -- ---- an expunge
 
 expunged : answer (box (noon ∷ Arrive M1 ∷ Arrive M2 ∷ Seen 1 ∷ Expunge 2 ∷ [])) (OneChat (Single bob))
@@ -190,6 +204,9 @@ uid_taken =
 
 both_gone : answer (after (after uid_taken (Arrive G1)) (Expunge 1)) AllChats ≡ Some []
 both_gone = refl
+
+fault_gone_with_it : answer (after (after uid_taken (ArriveFault NoFrom)) (Expunge 1)) AllChats ≡ Some []
+fault_gone_with_it = refl
 
 -- ---- strangers
 

@@ -1,5 +1,5 @@
 -- Mailboxes that have the same cards have one list of present mails, but for their numbers.
-use Rattle.std.proofs.Common.{◌≡◌, refl, sym, ap, ◌∙◌, subst, ℕ, ◌≤◌, false, not, Option, Some, None, Result, Ok, Err, List, [], ◌∷◌, map, arith}
+use Rattle.std.proofs.Common.{◌≡◌, refl, sym, ap, ◌∙◌, subst, ℕ, ◌≤◌, true, false, not, Option, Some, None, Result, Ok, Err, List, [], ◌∷◌, map, arith}
 use Rattle.std.specs.Prelude.{filter, filter_map, option_map, IfOk, unwrap_or}
 use Rattle.std.specs.List.{AllByRecursion, IsDistinct, cons_option}
 use Rattle.std.specs.List.Sorted.{IsStrictlySortedBy, IsPermutation}
@@ -16,7 +16,7 @@ use Rattle.card_type.specs.declared.card.Card.{Card}
 use Rattle.card_type.specs.declared.key.ChatKey.{ChatKey}
 use Rattle.mailbox_model.specs.declared.change.Fault.{Fault}
 use Rattle.mailbox_model.specs.Lists.{Bytes}
-use Rattle.mailbox_model.specs.Mailbox.{Mailbox, Entry, IsMailbox}
+use Rattle.mailbox_model.specs.Mailbox.{Mailbox, Entry}
 use Rattle.mailbox_model.specs.Present.{Mail, effective_date, mail_by, mail_of, mail_cmp, mails, same_id, present}
 use Rattle.mailbox_model.specs.Pages.{page}
 use Rattle.mailbox_model.specs.ChatList.{list_page}
@@ -25,12 +25,13 @@ use Rattle.mailbox_model.specs.Answers.Question.{AllChats, AllContacts, AllUpdat
 use Rattle.mailbox_model.specs.Printed.{list_text, contacts_text}
 use Rattle.mailbox_model.specs.Contacts.{contacts_by}
 use Rattle.mailbox_model.proofs.MailLaws.{order, is_alike}
-use Rattle.mailbox_model.proofs.PresentLaws.{mails_all, mails_sorted}
+use Rattle.mailbox_model.proofs.PresentLaws.{mails_all}
 use Rattle.model_laws.specs.Numbers.{unnumbered}
 use Rattle.model_laws.specs.SameCards.{CardSeen, card_seen, cards_seen, same_card_id, IsDatedBy, AreDated, HaveSameCards}
 use Rattle.model_laws.proofs.Numbers.{bare, page_bare, list_bare, cards_bare, all_updates_bare, info_updates_bare}
 use Rattle.model_laws.proofs.Parts.{page_in, list_rows_in, cards_in, answer_in}
 use Rattle.model_laws.proofs.OneOrder.{one_order}
+use Rattle.model_laws.proofs.InOrder.{strict_order, mails_in_order}
 
 -- ---- the mails of a mailbox, over its cards and when each was seen
 
@@ -123,12 +124,28 @@ mails_apart m d =
     IsDistinct-IsPermutation same_id (λ x y. is_alike.turn x y) (filter_map mail_of m.entries) (mails m) (mails_all m)
     (distinct_of (filter_map mail_of m.entries) (subst (IsDistinct same_card_id) (seen_mails m.entries) d))
 
+-- two that tie have one id
+one_id : (x y : Mail) → mail_cmp x y ≡ Equal → same_id x y ≡ true
+one_id x y e =
+    sym (is_eq-slice_cmp x.placed.card.id y.placed.card.id)
+    ∙ by (nat_cmp x.placed.date y.placed.date) (slice_cmp nat_cmp x.placed.card.id y.placed.card.id) (nat_cmp x.placed.uid y.placed.uid) e
+  where
+    by : (date id uid : Ordering) → ordering_then date (ordering_then id uid) ≡ Equal → is_eq id ≡ true
+    by Less id uid h = cc
+    by Equal Less uid h = cc
+    by Equal Equal uid h = refl
+    by Equal Greater uid h = cc
+    by Greater id uid h = cc
+
+mails_strict : (m : Mailbox) → IsDistinct same_id (mails m) → IsStrictlySortedBy mail_cmp (mails m)
+mails_strict m apart = strict_order mail_cmp order same_id one_id (mails m) apart (mails_in_order m)
+
 -- ---- the present mails of both
 
-present_alike : (m n : Mailbox) → IsMailbox m → IsMailbox n → HaveSameCards m n → map bare (present m) ≡ map bare (present n)
-present_alike m n k l same =
+present_alike : (m n : Mailbox) → HaveSameCards m n → map bare (present m) ≡ map bare (present n)
+present_alike m n same =
     ap (map bare) (firsts_all (mails m) apart)
-    ∙ one_order mail_cmp order (map bare (mails m)) (map bare (mails n)) (bare_sorted (mails m) apart (mails_sorted m k.uids)) (bare_sorted (mails n) other (mails_sorted n l.uids)) moved
+    ∙ one_order mail_cmp order (map bare (mails m)) (map bare (mails n)) (bare_sorted (mails m) apart (mails_strict m apart)) (bare_sorted (mails n) other (mails_strict n other)) moved
     ∙ sym (ap (map bare) (firsts_all (mails n) other))
   where
     apart : IsDistinct same_id (mails m)
@@ -146,14 +163,14 @@ present_alike m n k l same =
 
 -- ---- what is shown of both
 
-module _ (m n : Mailbox) (k : IsMailbox m) (l : IsMailbox n) (same : HaveSameCards m n) where
+module _ (m n : Mailbox) (same : HaveSameCards m n) where
   -- a word that says the same of mails without their numbers
   over_bare : {Y : Type 0} (f : Bytes → ℕ → List Mail → Y)
       → ((me : Bytes) (now : ℕ) (ps : List Mail) → f me now (map bare ps) ≡ f me now ps)
       → f m.me m.now (present m) ≡ f n.me n.now (present n)
   over_bare f h =
       sym (h m.me m.now (present m))
-      ∙ (λ i. f (same.me i) (same.now i) (present_alike m n k l same i))
+      ∙ (λ i. f (same.me i) (same.now i) (present_alike m n same i))
       ∙ h n.me n.now (present n)
 
   pub list_same : (list_page m).faults ≡ (list_page n).faults → answer m AllChats ≡ answer n AllChats
@@ -171,5 +188,5 @@ module _ (m n : Mailbox) (k : IsMailbox m) (l : IsMailbox n) (same : HaveSameCar
   pub page_same : (key : ChatKey) → option_map unnumbered (page m key) ≡ option_map unnumbered (page n key)
   page_same key =
       sym (page_bare m.me m.now (present m) key)
-      ∙ (λ i. page_in (same.me i) (same.now i) (present_alike m n k l same i) key)
+      ∙ (λ i. page_in (same.me i) (same.now i) (present_alike m n same i) key)
       ∙ page_bare n.me n.now (present n) key

@@ -17,29 +17,24 @@ use Rattle.card_type.specs.Kinds.{kind_of, is_content, has_some}
 use Rattle.mailbox_model.specs.declared.change.Change.TheVariants.{Arrive}
 use Rattle.mailbox_model.specs.declared.row.Row.{Row}
 use Rattle.mailbox_model.specs.Lists.{Bytes, last_of}
-use Rattle.mailbox_model.specs.Mailbox.{Mailbox, after, IsMailbox, RiseBelow}
+use Rattle.mailbox_model.specs.Mailbox.{Mailbox, after}
 use Rattle.mailbox_model.specs.Present.{Placed, Mail, mail_cmp, mails, has_id, same_id, present}
 use Rattle.mailbox_model.specs.Turns.{arriving, with_mail}
 use Rattle.mailbox_model.specs.Rows.{Act, act_on, acting_by, is_effect, is_expired, text_card, updates_by, shown_by, row_by, acting, row}
 use Rattle.lists.specs.Distinct.{firsts}
-use Rattle.lists.proofs.Inserts.{none_from_found, none_filtered, find-firsts, preceded_none}
-use Rattle.lists.proofs.Rising.{firsts-insert_by}
-use Rattle.mailbox_model.proofs.MailLaws.{is_below, is_never_back, is_alike, line_of, mails-arrive}
+use Rattle.lists.proofs.Inserts.{none_from_found}
+use Rattle.mailbox_model.proofs.MailLaws.{order, is_alike, mails-arrive}
 use Rattle.model_laws.specs.Strangers.{IsReceiptOfOwn, but_readers, but_readers_and_updates}
+use Rattle.model_laws.proofs.InOrder.{firsts_new, found_present, mails_in_order}
 
 -- ---- a card with a new id comes in
 
-pub comes_in : (m : Mailbox) (card : Card) → RiseBelow 1 m.entries m.next_uid → find (has_id card.id) (present m) ≡ None
+pub comes_in : (m : Mailbox) (card : Card) → find (has_id card.id) (present m) ≡ None
     → present (after m (Arrive card)) ≡ with_mail (arriving m card) (present m)
-comes_in m card u e =
+comes_in m card e =
     let y = arriving m card in
-    let none = none_from_found (same_id y) (mails m) (sym (find-firsts same_id (same_id y) same_for (mails m)) ∙ e) in
-    ap (firsts same_id) (mails-arrive m card)
-    ∙ firsts-insert_by same_id mail_cmp is_alike is_below y (mails m) (line_of m u).rising
-    ∙ rw (preceded_none mail_cmp is_below is_never_back same_id y (mails m) none) (ap (with_mail y) (none_filtered (same_id y) (present m) (none_from_found (same_id y) (present m) e)))
-  where
-    same_for : (x z : Mail) → same_id x z ≡ true → same_id (arriving m card) x ≡ same_id (arriving m card) z
-    same_for x z h = ap (bytes_eq card.id) ((bytes_decides x.placed.card.id z.placed.card.id).0 h)
+    let none = none_from_found (same_id y) (mails m) (sym (found_present y (mails m)) ∙ e) in
+    ap (firsts same_id) (mails-arrive m card) ∙ firsts_new mail_cmp order same_id is_alike y (mails m) none (mails_in_order m)
 
 -- ---- what acts, with one more card
 
@@ -144,7 +139,7 @@ module _ (me : Bytes) (now : ℕ) (t : Mail) (first second : List Act)
 
 -- ---- the row of a mail where a card with a new id comes
 
-module _ (m : Mailbox) (e : Card) (t : Mail) (k : IsMailbox m) (new : find (has_id e.id) (present m) ≡ None) where
+module _ (m : Mailbox) (e : Card) (t : Mail) (new : find (has_id e.id) (present m) ≡ None) where
   abbrev y : Mail
   y = arriving m e
 
@@ -153,7 +148,7 @@ module _ (m : Mailbox) (e : Card) (t : Mail) (k : IsMailbox m) (new : find (has_
 
   acting_is : (f : List Act → List Placed) → f (acts does y (with_mail y (present m))) ≡ f (acting m t.placed.card)
       → f (acting (after m (Arrive e)) t.placed.card) ≡ f (acting m t.placed.card)
-  acting_is f same = ap (λ ps. f (acts does y ps)) (comes_in m e k.uids new) ∙ same
+  acting_is f same = ap (λ ps. f (acts does y ps)) (comes_in m e new) ∙ same
 
   abbrev made : Effect → Act
   made effect = record { effect = effect; by = y.placed }
@@ -187,7 +182,7 @@ module _ (m : Mailbox) (e : Card) (t : Mail) (k : IsMailbox m) (new : find (has_
   pub received_row : IfSome (effect_of e t.placed.card m.me) (IsReceiptOfOwn e t.placed.card m.me) → bytes_eq t.placed.card.from m.me ≡ false
       → row (after m (Arrive e)) t ≡ row m t
   received_row h other =
-      ap (row_by m.me m.now t) (ap (λ ps. acts does y ps) (comes_in m e k.uids new) ∙ acts_alike does y (none (effect_of e t.placed.card m.me) h) (present m))
+      ap (row_by m.me m.now t) (ap (λ ps. acts does y ps) (comes_in m e new) ∙ acts_alike does y (none (effect_of e t.placed.card m.me) h) (present m))
     where
       none : (o : Option Effect) → IfSome o (IsReceiptOfOwn e t.placed.card m.me) → option_map made o ≡ None
       none None h = refl

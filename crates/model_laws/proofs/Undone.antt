@@ -1,5 +1,5 @@
 -- An expunge leaves no trace of its mail.
-use Rattle.std.proofs.Common.{◌≡◌, refl, ap, ◌∙◌, ℕ, ◌<◌, Bool, true, false, not, cond, Result, List, [], ◌∷◌, map, arith}
+use Rattle.std.proofs.Common.{◌≡◌, refl, ap, ◌∙◌, ℕ, ◌<◌, true, false, not, cond, Result, List, [], ◌∷◌, map, arith}
 use Rattle.std.specs.Prelude.{if◌then◌else◌, filter, max}
 use Rattle.std.specs.List.{AllByRecursion}
 use Rattle.std.proofs.lemmas.Bool.{eq-eqb, ne_eqb}
@@ -14,23 +14,12 @@ use Rattle.mailbox_model.specs.Answers.{Question, answer}
 use Rattle.mailbox_model.proofs.AnswerLaws.{same_answer}
 use Rattle.mailbox_model.proofs.UidLaws.{below}
 use Rattle.model_laws.specs.Arrivals.{BringsNone, BringNone}
+use Rattle.model_laws.proofs.Filters.{filter_turn}
 
 abbrev but : ℕ → List Entry → List Entry
 but uid entries = filter (λ entry. not (has_uid uid entry)) entries
 
 -- ---- what changes make of the others
-
-module _ {X : Type 0} (p q : X → Bool) where
-  filter_turn : (xs : List X) → filter p (filter q xs) ≡ filter q (filter p xs)
-  filter_turn [] = refl
-  filter_turn (x ∷ xs) = by (p x) (q x) refl refl (filter_turn xs)
-    where
-      by : (b c : Bool) → p x ≡ b → q x ≡ c → filter p (filter q xs) ≡ filter q (filter p xs)
-          → filter p (cond c (x ∷ filter q xs) (filter q xs)) ≡ filter q (cond b (x ∷ filter p xs) (filter p xs))
-      by true true e f h = rw e (rw f (ap (λ ys. x ∷ ys) h))
-      by true false e f h = rw f h
-      by false true e f h = rw e h
-      by false false e f h = h
 
 -- a mark keeps the uid
 marked_uid : (uid marked now : ℕ) (e : Entry) → has_uid uid (mark_entry marked now e) ≡ has_uid uid e

@@ -42,7 +42,7 @@ pub fn answers_follow_from_the_present()
 /// - `again`: where a card is in the mailbox, under whatever uid and present or not, and arrives again.
 /// - `later`: and where any mail arrives that has the id of a present one and comes no earlier in mail order.
 pub fn copies_change_nothing()
-    ensures later { (m : Mailbox) (card : Card) (t : Mail) → IsMailbox m → find (has_id card.id) (present m) ≡ Some t
+    ensures later { (m : Mailbox) (card : Card) (t : Mail) → find (has_id card.id) (present m) ≡ Some t
         → is_lt (mail_cmp (arriving m card) t) ≡ false
         → (question : Question) → answer (after m (Arrive card)) question ≡ answer m question }
     ensures again { (m : Mailbox) (card : Card) (uid : ℕ) → IsMailbox m → card_at m uid ≡ Some card
@@ -73,13 +73,13 @@ pub fn expunge_undoes_arrival()
 /// - `edits`: whoever is not the sender, stranger or not, changes nothing of a row but its readers and its updates.
 pub fn strangers_change_little()
     ensures effect { (e t : Card) (me : Bytes) → has_person t e.from ≡ false → IfSome (effect_of e t me) (IsReceiptOfOwn e t me) }
-    ensures received { (m : Mailbox) (e : Card) (t : Mail) → IsMailbox m → find (has_id e.id) (present m) ≡ None
+    ensures received { (m : Mailbox) (e : Card) (t : Mail) → find (has_id e.id) (present m) ≡ None
         → has_person t.placed.card e.from ≡ false → bytes_eq t.placed.card.from m.me ≡ false
         → row (after m (Arrive e)) t ≡ row m t }
-    ensures sent { (m : Mailbox) (e : Card) (t : Mail) → IsMailbox m → find (has_id e.id) (present m) ≡ None
+    ensures sent { (m : Mailbox) (e : Card) (t : Mail) → find (has_id e.id) (present m) ≡ None
         → has_person t.placed.card e.from ≡ false
         → option_map but_readers (row (after m (Arrive e)) t) ≡ option_map but_readers (row m t) }
-    ensures edits { (m : Mailbox) (e : Card) (t : Mail) → IsMailbox m → find (has_id e.id) (present m) ≡ None
+    ensures edits { (m : Mailbox) (e : Card) (t : Mail) → find (has_id e.id) (present m) ≡ None
         → bytes_eq e.from t.placed.card.from ≡ false
         → option_map but_readers_and_updates (row (after m (Arrive e)) t) ≡ option_map but_readers_and_updates (row m t) }
 {}
@@ -135,15 +135,15 @@ pub fn only_deadlines_change_with_time()
 pub fn order_of_arrival_is_not_seen()
     ensures brought { (me : Bytes) (first second : List Change) → BringSameCards me first second
         → HaveSameCards (after_all (empty_mailbox me) first) (after_all (empty_mailbox me) second) }
-    ensures list { (m n : Mailbox) → IsMailbox m → IsMailbox n → HaveSameCards m n
+    ensures list { (m n : Mailbox) → HaveSameCards m n
         → (list_page m).faults ≡ (list_page n).faults → answer m AllChats ≡ answer n AllChats }
-    ensures contacts { (m n : Mailbox) → IsMailbox m → IsMailbox n → HaveSameCards m n
+    ensures contacts { (m n : Mailbox) → HaveSameCards m n
         → answer m AllContacts ≡ answer n AllContacts }
-    ensures updates { (m n : Mailbox) → IsMailbox m → IsMailbox n → HaveSameCards m n
+    ensures updates { (m n : Mailbox) → HaveSameCards m n
         → (id : Bytes) → answer m (AllUpdates id) ≡ answer n (AllUpdates id) }
-    ensures infos { (m n : Mailbox) → IsMailbox m → IsMailbox n → HaveSameCards m n
+    ensures infos { (m n : Mailbox) → HaveSameCards m n
         → (id : Bytes) → answer m (InfoUpdates id) ≡ answer n (InfoUpdates id) }
-    ensures chats { (m n : Mailbox) → IsMailbox m → IsMailbox n → HaveSameCards m n
+    ensures chats { (m n : Mailbox) → HaveSameCards m n
         → (key : ChatKey) → option_map unnumbered (page m key) ≡ option_map unnumbered (page n key) }
     ensures numbers { (r : Row) → row_text r ≡ codes "#" ++ decimal r.uid ++ drop 2 (row_text (unnumbered_row r)) }
 {}
