@@ -1,6 +1,6 @@
 -- One that is among others, which a test finds.
-use Rattle.std.proofs.Common.{◌≡◌, refl, sym, ap, ◌∙◌, subst, Bool, true, false, ◌||◌, cond, List, [], ◌∷◌, ◌++◌, map, ◌⊎◌, inl, inr}
-use Rattle.std.specs.Prelude.{if◌then◌else◌, filter}
+use Rattle.std.proofs.Common.{◌≡◌, refl, sym, ap, ◌∙◌, subst, Bool, true, false, ◌||◌, cond, Some, List, [], ◌∷◌, ◌++◌, map, ◌⊎◌, inl, inr}
+use Rattle.std.specs.Prelude.{if◌then◌else◌, filter, find}
 use Rattle.std.specs.List.{list_any, AllByRecursion, IsDistinct}
 use Rattle.std.specs.declared.cmp.Ordering.{Ordering}
 use Rattle.std.specs.Ordering.{is_lt}
@@ -33,6 +33,20 @@ pub among_all : {X : Type 0} (P : X → Type 0) (x : X) (xs : List X) → AllByR
 among_all P x [] a m = absurd m
 among_all P x (y ∷ ys) a (inl e) = subst P e a.0
 among_all P x (y ∷ ys) a (inr m) = among_all P x ys a.1 m
+
+pub all_among : {X : Type 0} (P : X → Type 0) (xs : List X) → ((x : X) → Among x xs → P x) → AllByRecursion P xs
+all_among P [] h = tt
+all_among P (x ∷ xs) h = (h x (inl refl), all_among P xs (λ y m. h y (inr m)))
+
+-- ---- of what is found
+
+pub found_among : {X : Type 0} (p : X → Bool) (xs : List X) (x : X) → find p xs ≡ Some x → Among x xs
+found_among p [] x h = cc
+found_among {X} p (y ∷ ys) x h =
+    elim (p y) as (λ b. cond b (Some y) (find p ys) ≡ Some x → Among x (y ∷ ys)) [
+      | true ↦ λ k. let same : y ≡ x = cc in inl same
+      | false ↦ λ k. inr (found_among p ys x k)
+    ] h
 
 -- ---- of filters
 
@@ -111,3 +125,13 @@ one_alike same turn (z ∷ zs) d x y (inl e) (inr k) h =
 one_alike same turn (z ∷ zs) d x y (inr m) (inl f) h =
     absurd (both_ways (same x y) (turn x y ∙ subst (λ w. same w x ≡ false) f (among_all (λ w. same z w ≡ false) x zs d.0 m)) h)
 one_alike same turn (z ∷ zs) d x y (inr m) (inr k) h = one_alike same turn zs d.1 x y m k h
+
+-- and each is found by itself
+pub found_by_itself : {X : Type 0} (same : X → X → Bool) → ((x : X) → same x x ≡ true) → ((x y : X) → same x y ≡ same y x)
+    → (xs : List X) → IsDistinct same xs → (x : X) → Among x xs → find (same x) xs ≡ Some x
+unfolding IsDistinct
+found_by_itself same self turn [] d x m = absurd m
+found_by_itself same self turn (y ∷ ys) d x (inl e) = subst (λ z. find (same z) (y ∷ ys) ≡ Some z) e (rw (self y) refl)
+found_by_itself same self turn (y ∷ ys) d x (inr m) =
+    let other : same x y ≡ false = turn x y ∙ among_all (λ z. same y z ≡ false) x ys d.0 m in
+    rw other (found_by_itself same self turn ys d.1 x m)

@@ -4,6 +4,7 @@ use Rattle.std.proofs.Common.{◌≡◌, refl, sym, ap, ◌∙◌, Bool, true, f
 use Rattle.std.specs.Prelude.{filter, IfSome, unwrap_or}
 use Rattle.std.specs.Option.{option_map}
 use Rattle.std.proofs.lemmas.Bool.{and_right}
+use Rattle.card_type.specs.declared.card.Card.{Card}
 use Rattle.card_type.specs.declared.key.ChatKey.{ChatKey}
 use Rattle.card_type.specs.Effects.{is_among, names}
 use Rattle.lists.proofs.Rising.{filter-insert_by-dropped}
@@ -44,7 +45,7 @@ naming_cards addr m =
     ∙ ap (map (λ p. p.card)) (filter-map (λ p. gives_name addr p.card) (λ t. t.placed) (present m))
 
 module _ (m n : Mailbox) (a b : Option Mail) (others : List Mail) (before : present m ≡ with_maybe a others) (after : present n ≡ with_maybe b others) where
-  same_passing : (p : Mail → Bool) → IfSome a (λ t. p t ≡ false) → IfSome b (λ t. p t ≡ false) → filter p (present m) ≡ filter p (present n)
+  pub same_passing : (p : Mail → Bool) → IfSome a (λ t. p t ≡ false) → IfSome b (λ t. p t ≡ false) → filter p (present m) ≡ filter p (present n)
   same_passing p f g =
       ap (filter p) before ∙ without_maybe p a others f ∙ sym (ap (filter p) after ∙ without_maybe p b others g)
 
@@ -55,6 +56,18 @@ module _ (m n : Mailbox) (a b : Option Mail) (others : List Mail) (before : pres
       (naming_cards addr m
       ∙ ap (λ ts. map (λ p. p.card) (map (λ t. t.placed) ts)) (same_passing (λ t. gives_name addr t.placed.card) f g)
       ∙ sym (naming_cards addr n))
+
+  -- who acts on a card that neither names
+  pub beside_acting : m.me ≡ n.me → (card : Card) → IfSome a (λ x. is_among (names x.placed.card) card.id ≡ false)
+      → IfSome b (λ x. is_among (names x.placed.card) card.id ≡ false) → acting m card ≡ acting n card
+  beside_acting me card f g =
+      sym (naming_enough m.me card (present_cards m)) ∙ (λ i. acts_on (me i) card (named i)) ∙ naming_enough n.me card (present_cards n)
+    where
+      named : naming card.id (present_cards m) ≡ naming card.id (present_cards n)
+      named =
+          named_cards card.id (present m)
+          ∙ ap (map (λ t. t.placed)) (same_passing (λ x. is_among (names x.placed.card) card.id) f g)
+          ∙ sym (named_cards card.id (present n))
 
   module _ (key : ChatKey) (me : m.me ≡ n.me) (clock : m.now ≡ n.now) (unmoved : Unmoved m n key)
       (far : IfSome a (λ t. is_near m key t ≡ false)) (near : IfSome b (λ t. is_near m key t ≡ false)) where
@@ -68,19 +81,10 @@ module _ (m n : Mailbox) (a b : Option Mail) (others : List Mail) (before : pres
         apart t h = and_right (is_content_mail t) (is_in m key t) (far_apart m key t h)
 
     same_acting : (t : Mail) → is_in m key t ≡ true → acting m t.placed.card ≡ acting n t.placed.card
-    same_acting t there =
-        sym (naming_enough m.me t.placed.card (present_cards m))
-        ∙ (λ i. acts_on (me i) t.placed.card (named i))
-        ∙ naming_enough n.me t.placed.card (present_cards n)
+    same_acting t there = beside_acting me t.placed.card (each_of unnamed a far) (each_of unnamed b near)
       where
         unnamed : (x : Mail) → is_near m key x ≡ false → is_among (names x.placed.card) t.placed.card.id ≡ false
         unnamed x h = far_unnamed m key x h t there
-
-        named : naming t.placed.card.id (present_cards m) ≡ naming t.placed.card.id (present_cards n)
-        named =
-            named_cards t.placed.card.id (present m)
-            ∙ ap (map (λ t. t.placed)) (same_passing (λ x. is_among (names x.placed.card) t.placed.card.id) (each_of unnamed a far) (each_of unnamed b near))
-            ∙ sym (named_cards t.placed.card.id (present n))
 
     pub beside_stays : Stays m n key
     beside_stays = record {

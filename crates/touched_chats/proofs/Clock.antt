@@ -27,7 +27,7 @@ not_due : (withdrawn expired later : Bool) (r : Row) → withdrawn ≡ false →
 not_due withdrawn expired later r w e h = sym (rw (w, e) refl) ∙ h
 
 module _ (m n : Mailbox) (me : m.me ≡ n.me) (same : present m ≡ present n) (clock : m.now ≤ n.now) where
-  moved_row : (t : Mail) → is_due m n.now t ≡ false → row m t ≡ row n t
+  pub moved_row : (t : Mail) → is_due m n.now t ≡ false → row m t ≡ row n t
   moved_row t h = row_alike m n me t (record { acts = λ i. acts_on (me i) t.placed.card (map (λ u. u.placed) (same i)); expired = λ shown. by shown (is_expired m.me m.now t) refl ∙ (λ i. is_expired (me i) n.now t) })
     where
       by : is_withdrawn (acting m t.placed.card) ≡ false → (b : Bool) → is_expired m.me m.now t ≡ b → is_expired m.me m.now t ≡ is_expired m.me n.now t

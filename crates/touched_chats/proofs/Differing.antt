@@ -1,7 +1,7 @@
 -- Each mail of a turn changed: it is not the same before and after.
 use Rattle.std.proofs.Common.{◌≡◌, ◌≢◌, refl, sym, ap, ◌∙◌, subst, ℕ, true, false, not, Option, Some, None, is_some, List, [], ◌∷◌, ◌++◌, ◌⊎◌, inl, inr, ⊎_elim}
 use Rattle.std.specs.Prelude.{if◌then◌else◌, nat_eq}
-use Rattle.std.specs.List.{list_any, AllByRecursion, IsDistinct, Contains}
+use Rattle.std.specs.List.{list_any, IsDistinct, Contains}
 use Rattle.std.proofs.lemmas.Bool.{both_ways, eq-eqb, eqb-true, false_from_ne_true, false≢true}
 use Rattle.std.proofs.lemmas.List.Elements.{All-from_recursion, All-contains}
 use Rattle.lists.proofs.OneMore.{none_alike}
@@ -14,9 +14,8 @@ use Rattle.mailbox_model.proofs.MailLaws.{uid_alike}
 use Rattle.mailbox_model.proofs.UidLaws.{present_uids}
 use Rattle.touched_chats.specs.Touched.{is_same, only_in, changed}
 use Rattle.touched_chats.specs.Suspects.{turned_uids, turned}
-use Rattle.touched_chats.proofs.Among.{Among, IsMapped, any_found, among_all, among_passing, passing_among, among_first, among_second, among_either, among_inserted, among_mapped, one_alike}
+use Rattle.touched_chats.proofs.Among.{Among, IsMapped, any_found, among_all, all_among, among_passing, passing_among, among_first, among_second, among_either, among_inserted, among_mapped, one_alike}
 use Rattle.touched_chats.proofs.SameMails.{one_of, same_turn}
-use Rattle.touched_chats.proofs.Covered.{All-weaker}
 use Rattle.touched_chats.proofs.Turned.{is_of}
 
 -- ---- where one comes or leaves, its uid is not on the other side
@@ -49,12 +48,8 @@ unmarked_alone : (now : ℕ) (o : Option ℕ) → None ≡ marked_at now o → �
 unmarked_alone now None h = false≢true (ap is_some h)
 unmarked_alone now (Some s) h = false≢true (ap is_some h)
 
-each_among : (ts : List Mail) → AllByRecursion (λ t. Among t ts) ts
-each_among [] = tt
-each_among (t ∷ ts) = (inl refl, All-weaker (λ u. Among u ts) (λ u. Among u (t ∷ ts)) (λ u m. inr m) ts (each_among ts))
-
 contained : (ts : List Mail) (t : Mail) → Contains ts t → Among t ts
-contained ts t c = All-contains (λ u. Among u ts) ts t (All-from_recursion (λ u. Among u ts) ts (each_among ts)) c
+contained ts t c = All-contains (λ u. Among u ts) ts t (All-from_recursion (λ u. Among u ts) ts (all_among (λ u. Among u ts) ts (λ u m. m))) c
 
 module _ (uid now : ℕ) where
   mark_uid : (t : Mail) → (mark_mail uid now t).placed.uid ≡ t.placed.uid

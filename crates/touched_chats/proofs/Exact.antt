@@ -54,11 +54,11 @@ by_id q id (t ∷ ts) = by (bytes_eq id t.placed.card.id) refl (by_id q id ts)
         (λ i. (q (same i) && true) || rest i) ∙ here (q id) (list_any (has_id id) ts)
     by false e rest = apart (q t.placed.card.id) (list_any (λ t. q t.placed.card.id && has_id id t) ts) ∙ rest
 
-ids_of_cites : (me : Bytes) (ts : List Mail) (id : Bytes) → is_id_among (map (λ t. cites_by me (spot t.placed) t.placed.card) ts) id ≡ list_any (has_id id) ts
+pub ids_of_cites : (me : Bytes) (ts : List Mail) (id : Bytes) → is_id_among (map (λ t. cites_by me (spot t.placed) t.placed.card) ts) id ≡ list_any (has_id id) ts
 ids_of_cites me [] id = refl
 ids_of_cites me (t ∷ ts) id = ap (λ b. bytes_eq id t.placed.card.id || b) (ids_of_cites me ts id)
 
-has_in_chat : (m : Mailbox) (key : ChatKey) (id : Bytes) → list_any (has_id id) (chat_mails m key) ≡ is_chat key (chat m id)
+pub has_in_chat : (m : Mailbox) (key : ChatKey) (id : Bytes) → list_any (has_id id) (chat_mails m key) ≡ is_chat key (chat m id)
 has_in_chat m key id =
     any_passing (has_id id) (is_in m key) (contents m)
     ∙ by_id (λ i. is_chat key (chat m i)) id (contents m)
@@ -75,7 +75,7 @@ has_in_chat m key id =
 
 -- ---- where a card moved, the cards differ
 
-one_chat : (key : ChatKey) (a b : Option ChatKey) → is_chat key a ≡ true → is_chat key b ≡ true → option_eq key_eq a b ≡ true
+pub one_chat : (key : ChatKey) (a b : Option ChatKey) → is_chat key a ≡ true → is_chat key b ≡ true → option_eq key_eq a b ≡ true
 one_chat key None b p q = absurd (false≢true p)
 one_chat key (Some k) None p q = absurd (false≢true q)
 one_chat key (Some k) (Some l) p q = subst (λ j. key_eq j l ≡ true) (key_same key k p) q

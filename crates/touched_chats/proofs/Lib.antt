@@ -19,3 +19,8 @@ pub mod Due
 pub mod Renamed
 pub mod Suspected
 pub mod Telling
+pub mod CardStaying
+pub mod CardsOfSuspects
+pub mod TouchedKeys
+pub mod Counts
+pub mod Repairs

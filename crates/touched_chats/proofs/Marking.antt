@@ -36,14 +36,14 @@ module _ (uid now : ℕ) where
   abbrev mark : Mail → Mail
   mark = mark_mail uid now
 
-  same_card : (t : Mail) → (mark t).placed ≡ t.placed
+  pub same_card : (t : Mail) → (mark t).placed ≡ t.placed
   same_card t = elim (is_mail uid t) as (λ b. (if b then record t { seen = marked_at now t.seen } else t).placed ≡ t.placed) [ true ↦ refl | false ↦ refl ]
 
   same_cards : (ts : List Mail) → map (λ t. t.placed) (map mark ts) ≡ map (λ t. t.placed) ts
   same_cards [] = refl
   same_cards (t ∷ ts) = λ i. same_card t i ∷ same_cards ts i
 
-  filter_marked : (p : Mail → Bool) → ((t : Mail) → p (mark t) ≡ p t) → (ts : List Mail)
+  pub filter_marked : (p : Mail → Bool) → ((t : Mail) → p (mark t) ≡ p t) → (ts : List Mail)
       → AllByRecursion (λ t. is_mail uid t ≡ true → p t ≡ false) ts → filter p (map mark ts) ≡ filter p ts
   filter_marked p h [] a = refl
   filter_marked p h (t ∷ ts) a = by (is_mail uid t) refl (filter_marked p h ts a.1)
@@ -54,7 +54,7 @@ module _ (uid now : ℕ) where
       by false e rest = let same : mark t ≡ t = rw e refl in λ i. cond (p (same i)) (same i ∷ rest i) (rest i)
 
   module _ (m n : Mailbox) (after : present n ≡ map mark (present m)) where
-    cards : present_cards m ≡ present_cards n
+    pub cards : present_cards m ≡ present_cards n
     cards = sym (ap (map (λ t. t.placed)) after ∙ same_cards (present m))
 
     pub marked_name : (addr : Bytes) → contact_name m addr ≡ contact_name n addr

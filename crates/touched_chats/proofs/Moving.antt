@@ -22,7 +22,7 @@ use Rattle.touched_chats.specs.Suspects.{is_end, is_moved}
 abbrev pub Unmoved : Mailbox → Mailbox → ChatKey → Type 0
 Unmoved m n key = (id : Bytes) → is_chat key (chat m id) ≡ is_chat key (chat n id)
 
-one_key : (a b : Option ChatKey) → option_eq key_eq a b ≡ true → a ≡ b
+pub one_key : (a b : Option ChatKey) → option_eq key_eq a b ≡ true → a ≡ b
 one_key None None e = refl
 one_key None (Some k) e = absurd (false≢true e)
 one_key (Some k) None e = absurd (false≢true e)

@@ -15,27 +15,7 @@ use Rattle.mailbox_model.specs.Chats.{chat, is_chat, chat_mails}
 use Rattle.mailbox_model.proofs.ListLaws.{key_same, key_turn}
 use Rattle.touched_chats.specs.Touched.{IsTouched, HoldsTouched}
 use Rattle.touched_chats.specs.Costs.{by_uid, is_in_any, cards_in, citing_unsettled, times_named_among, pairs_of, row_reads, refold_reads, repair_cost, AreHeld}
-
--- ---- a sum over the elements that pass one of two tests, no element both
-
-sum_filter : {X : Type 0} (f : X → ℕ) (b : Bool) (x : X) (xs : List X) → sum_by f (cond b (x ∷ xs) xs) ≡ cond b (f x) 0 + sum_by f xs
-sum_filter f true x xs = sum_by-cons f x xs
-sum_filter f false x xs = omega arith
-
-apart_sum : {X : Type 0} (f : X → ℕ) (p q : X → Bool) → ((x : X) → p x ≡ true → q x ≡ false) → (xs : List X)
-    → sum_by f (filter (λ x. p x || q x) xs) ≡ sum_by f (filter p xs) + sum_by f (filter q xs)
-apart_sum f p q h [] = refl
-apart_sum {X} f p q h (x ∷ xs) =
-    let rest = apart_sum f p q h xs in
-    let one = sum_filter f (p x || q x) x (filter (λ y. p y || q y) xs) in
-    let two = sum_filter f (p x) x (filter p xs) in
-    let three = sum_filter f (q x) x (filter q xs) in
-    let here : cond (p x || q x) (f x) 0 ≡ cond (p x) (f x) 0 + cond (q x) (f x) 0 = alone (p x) (q x) (f x) (h x) in
-    omega (arith, rest, one, two, three, here)
-  where
-    alone : (b c : Bool) (n : ℕ) → (b ≡ true → c ≡ false) → cond (b || c) n 0 ≡ cond b n 0 + cond c n 0
-    alone true c n g = rw (g refl) (omega arith)
-    alone false c n g = omega arith
+use Rattle.touched_chats.proofs.Counts.{apart_sum, sum_more}
 
 -- ---- chats of different keys have no card in common
 
@@ -51,7 +31,7 @@ no_card m key held a t h = by (chat m t.placed.card.id) held a h
         rw (key_turn k c ∙ subst (λ d. key_eq d k ≡ false) same a.0) (by (Some c) ks a.1 h)
 
 -- summed chat by chat is summed over the cards of these chats
-sum_of_chats : (m : Mailbox) (f : Mail → ℕ) (held : List ChatKey) → IsDistinct key_eq held
+pub sum_of_chats : (m : Mailbox) (f : Mail → ℕ) (held : List ChatKey) → IsDistinct key_eq held
     → sum_by (λ key. sum_by f (chat_mails m key)) held ≡ sum_by f (filter (is_in_any m held) (contents m))
 unfolding IsDistinct
 sum_of_chats m f [] d = sym (none (contents m))
@@ -64,27 +44,14 @@ sum_of_chats m f (key ∷ held) d =
     let both = apart_sum f (λ t. is_chat key (chat m t.placed.card.id)) (is_in_any m held) (no_card m key held d.0) (contents m) in
     sum_by-cons (λ key. sum_by f (chat_mails m key)) key held ∙ ap (λ s. sum_by f (chat_mails m key) + s) rest ∙ sym both
 
--- ---- more passes give more
-
-sum_more : {X : Type 0} (f : X → ℕ) (p q : X → Bool) → ((x : X) → p x ≡ true → q x ≡ true) → (xs : List X) → sum_by f (filter p xs) ≤ sum_by f (filter q xs)
-sum_more f p q h [] = omega arith
-sum_more f p q h (x ∷ xs) =
-    let rest = sum_more f p q h xs in
-    let one = sum_filter f (p x) x (filter p xs) in
-    let two = sum_filter f (q x) x (filter q xs) in
-    let here : cond (p x) (f x) 0 ≤ cond (q x) (f x) 0 = more (p x) (q x) (f x) (h x) in
-    omega (arith, rest, one, two, here)
-  where
-    more : (b c : Bool) (n : ℕ) → (b ≡ true → c ≡ true) → cond b n 0 ≤ cond c n 0
-    more true c n g = rw (g refl) (omega arith)
-    more false c n g = omega arith
+-- ---- more chats have more cards
 
 or_true : (b : Bool) → (b || true) ≡ true
 or_true true = refl
 or_true false = refl
 
 -- chats that are all among others
-in_any_more : (m : Mailbox) (keys held : List ChatKey) → AllByRecursion (λ key. list_any (key_eq key) held ≡ true) keys → (t : Mail) → is_in_any m keys t ≡ true → is_in_any m held t ≡ true
+pub in_any_more : (m : Mailbox) (keys held : List ChatKey) → AllByRecursion (λ key. list_any (key_eq key) held ≡ true) keys → (t : Mail) → is_in_any m keys t ≡ true → is_in_any m held t ≡ true
 in_any_more m [] held a t h = absurd (false≢true h)
 in_any_more m (key ∷ keys) held a t h =
     elim (is_chat key (chat m t.placed.card.id)) as (λ b. is_chat key (chat m t.placed.card.id) ≡ b → (b || is_in_any m keys t) ≡ true → is_in_any m held t ≡ true) [
@@ -133,20 +100,34 @@ each_named m n (t ∷ ts) =
     let more = more_named (present n) (others (present n) (present m)) t.placed.card.id in
     omega (arith, rest, left, right, more)
 
+-- the cards of these chats
+abbrev pub cards_of : Mailbox → List ChatKey → List Mail
+cards_of n held = filter (is_in_any n held) (contents n)
+
+module _ (m n : Mailbox) (held : List ChatKey) where
+  abbrev pub left_over : List Mail
+  left_over = others (cards_of n held) (cards_of m held)
+
+  pub cards_counted : length (cards_in m n held) ≡ length (cards_of n held) + length left_over
+  cards_counted = length-append (cards_of n held) left_over
+
+  pub pairs_within : pairs_of m n (cards_of n held) ≤ pairs_of m n (by_uid (cards_in m n held) (citing_unsettled m n))
+  pairs_within =
+      let parted = sum_by-append (named_by_any m n) (cards_of n held) left_over in
+      let paired = sum_by-append (named_by_any m n) (cards_in m n held) (others (cards_in m n held) (citing_unsettled m n)) in
+      omega (arith, parted, paired)
+
+  -- to read each, with those that name it
+  pub each_read : sum_by (row_reads n) (cards_of n held)
+      ≤ length (cards_of n held) + pairs_of m n (by_uid (cards_in m n held) (citing_unsettled m n))
+  each_read = omega (arith, each_named m n (cards_of n held), pairs_within)
+
 pub reads_fit : (m n : Mailbox) (keys held : List ChatKey) → IsDistinct key_eq keys → AreHeld held keys
     → refold_reads n keys ≤ length (cards_in m n held) + pairs_of m n (by_uid (cards_in m n held) (citing_unsettled m n))
 reads_fit m n keys held d a =
-    let xs = filter (is_in_any n held) (contents n) in
-    let ys = others xs (filter (is_in_any m held) (contents m)) in
-    let zs = others (cards_in m n held) (citing_unsettled m n) in
-    let g : Mail → ℕ = named_by_any m n in
     let by_chat = sum_of_chats n (row_reads n) keys d in
-    let wider = sum_more (row_reads n) (is_in_any n keys) (is_in_any n held) (in_any_more n keys held a) (contents n) in
-    let each = each_named m n xs in
-    let long = length-append xs ys in
-    let paired = sum_by-append g (xs ++ ys) zs in
-    let parted = sum_by-append g xs ys in
-    omega (arith, by_chat, wider, each, long, paired, parted)
+    let wider = sum_more (row_reads n) (is_in_any n keys) (is_in_any n held) (contents n) (λ t m. in_any_more n keys held a t) in
+    omega (arith, by_chat, wider, each_read m n held, cards_counted m n held)
 
 all_held : (m n : Mailbox) (held : List ChatKey) → HoldsTouched m n held → (keys : List ChatKey) → AllByRecursion (IsTouched m n) keys → AreHeld held keys
 all_held m n held all [] a = tt

@@ -1,15 +1,21 @@
 -- How many reads of kept cards the repair of the touched chats may take.
 use Rattle.std.specs.Prelude.{◌≡◌, ℕ, ◌+◌, ◌*◌, Bool, true, not, ◌&&◌, List, ◌++◌, length, map, filter, find, sum_by, count_by}
 use Rattle.std.specs.List.{list_any, AllByRecursion}
-use Rattle.std.specs.Option.{option_eq}
+use Rattle.std.specs.Option.{option_eq, option_map_or}
+use Rattle.lists.specs.Distinct.{firsts}
 use Rattle.card_type.specs.declared.key.ChatKey.{ChatKey}
 use Rattle.card_type.specs.Effects.{is_among, names}
 use Rattle.card_type.specs.Keys.{key_eq}
 use Rattle.card_type.specs.Spots.{spot_eq}
+use Rattle.mailbox_model.specs.declared.change.Change.{Change}
+use Rattle.mailbox_model.specs.declared.turn.Turn.{Turn}
 use Rattle.mailbox_model.specs.Lists.{Bytes}
-use Rattle.mailbox_model.specs.Mailbox.{Mailbox}
+use Rattle.mailbox_model.specs.Mailbox.{Mailbox, after}
 use Rattle.mailbox_model.specs.Present.{Mail, spot, has_id, same_uid, present, contents}
 use Rattle.mailbox_model.specs.Chats.{candidates, chat, is_chat, chat_mails}
+use Rattle.mailbox_model.specs.Pages.{keys}
+use Rattle.mailbox_model.specs.Turns.{turn}
+use Rattle.touched_chats.specs.Suspects.{is_suspect}
 
 -- of two mailboxes: these, and those of the other that have a uid which none of these has
 abbrev pub by_uid : List Mail → List Mail → List Mail
@@ -52,6 +58,14 @@ repair_cost m n held =
     let k = citing_unsettled m n in
     4 * (length c + length k + pairs_of m n (by_uid c k)) + 16
 
+-- the suspect chats that are there, each once: they are the touched ones
+abbrev pub touched_keys : Mailbox → Mailbox → Turn → List ChatKey
+touched_keys m n turn = filter (is_suspect m n turn) (firsts key_eq (keys n ++ keys m))
+
+-- what the repair after a change may cost
+abbrev pub change_cost : Mailbox → Change → ℕ
+change_cost m change = let n = after m change in repair_cost m n (touched_keys m n (turn m change))
+
 -- ---- what folding chats anew reads: each card, and for each the cards that name it
 
 abbrev pub row_reads : Mailbox → Mail → ℕ
@@ -66,3 +80,9 @@ refold_reads m keys = sum_by (chat_reads m) keys
 -- each of these is among others
 abbrev pub AreHeld : List ChatKey → List ChatKey → Type 0
 AreHeld held keys = AllByRecursion (λ key. list_any (key_eq key) held ≡ true) keys
+
+-- ---- what settling the card with an id reads: it as it was, and as it is with the cards that name it
+
+abbrev pub settle_reads : Mailbox → Mailbox → Bytes → ℕ
+settle_reads m n id =
+    option_map_or (λ t. 1) (find (has_id id) (contents m)) 0 + option_map_or (row_reads n) (find (has_id id) (contents n)) 0

@@ -1,7 +1,8 @@
 //! Laws of what a change touches. Each is the contract of a function that does nothing: its clauses speak of every mailbox
 //! and every change.
-ghost use Rattle.std.specs.Prelude.{◌≡◌, ◌⊎◌, ◌↔◌, Bool, filter, ◌<◌, ◌==◌, find, IfSome, Option, Some, ◌||◌, ◌≢◌, ℕ, ◌≤◌, ◌+◌, ◌*◌, List, length, true, false, None, if◌then◌else◌, is_some};
+ghost use Rattle.std.specs.Prelude.{◌≡◌, ◌⊎◌, ◌↔◌, Bool, filter, ◌<◌, ◌==◌, find, IfSome, Option, Some, ◌||◌, ◌&&◌, ◌≢◌, ℕ, ◌≤◌, ◌+◌, ◌*◌, List, length, true, false, None, if◌then◌else◌, is_some, nat_eq, sum_by};
 ghost use Rattle.std.specs.List.{list_any, AllByRecursion, IsDistinct};
+ghost use Rattle.std.specs.Str.{bytes_eq};
 ghost use Rattle.lists.specs.Sorted.{insert_by};
 ghost use Rattle.card_type.specs.declared.key.ChatKey.{ChatKey};
 ghost use Rattle.card_type.specs.Keys.{key_eq};
@@ -12,15 +13,15 @@ ghost use Rattle.mailbox_model.specs.Mailbox.{Mailbox, after, entry_at, full, Is
 ghost use Rattle.mailbox_model.specs.Lists.{Bytes};
 ghost use Rattle.mailbox_model.specs.Present.{contents, mail_at, spot_of};
 ghost use Rattle.mailbox_model.specs.Turns.{turn, IsTurn};
-ghost use Rattle.mailbox_model.specs.Chats.{chat_mails, cites, cites_cmp, moves};
+ghost use Rattle.mailbox_model.specs.Chats.{chat, chat_mails, cites, cites_cmp, is_chat, moves};
 ghost use Rattle.mailbox_model.specs.Rows.{expiry, row};
 ghost use Rattle.mailbox_model.specs.Frames.{NameStays, Stays};
 ghost use Rattle.mailbox_model.specs.Pages.{page};
 ghost use Rattle.mailbox_model.specs.ChatList.{list_row};
 ghost use Rattle.mailbox_model.specs.States.{chat_cards};
 ghost use Rattle.touched_chats.specs.Ahead.{entry_ahead, now_ahead, spot_ahead};
-ghost use Rattle.touched_chats.specs.Costs.{by_uid, cards_in, citing_unsettled, pairs_of, refold_reads, repair_cost, AreHeld};
-ghost use Rattle.touched_chats.specs.Suspects.{has_due, is_end, is_moved, is_renamed, is_suspect, is_turned, turned};
+ghost use Rattle.touched_chats.specs.Costs.{by_uid, cards_in, change_cost, citing_unsettled, pairs_of, refold_reads, repair_cost, settle_reads, touched_keys, AreHeld};
+ghost use Rattle.touched_chats.specs.Suspects.{has_due, is_end, is_moved, is_renamed, is_suspect, is_suspect_card, is_turned, turned, uid_falls_due, CardStays};
 ghost use Rattle.touched_chats.specs.Touched.{has_chat, is_concerned, HoldsTouched, IsTouched};
 
 /// A chat that is not suspect stays as it is: nothing that is kept of it has to be looked at.
@@ -53,6 +54,31 @@ pub fn a_chat_that_is_not_suspect_stays()
     ensures change { (m : Mailbox) (change : Change) (key : ChatKey) → IsMailbox m
         → is_suspect m (after m change) (turn m change) key ≡ false
         → Stays m (after m change) key × NameStays m (after m change) key }
+{}
+
+/// A card that is not suspect stays as it is, so that a program that keeps something of each card need not look at it.
+///
+/// A card is suspect where it is in another chat than before, where a mail that came, left or was marked is it or names it,
+/// and where its row is shown and has expired.
+///
+/// - `stays`: any other card has the same mail, is in the same chat and has the same row.
+/// - `change`: so it is for every change of a mailbox.
+pub fn a_card_that_is_not_suspect_stays()
+    ensures stays { (m n : Mailbox) (turn : Turn) (id : Bytes) → m.me ≡ n.me → IsTurn m n turn
+        → is_suspect_card m n turn id ≡ false → CardStays m n id }
+    ensures change { (m : Mailbox) (change : Change) (id : Bytes) → IsMailbox m
+        → is_suspect_card m (after m change) (turn m change) id ≡ false → CardStays m (after m change) id }
+{}
+
+/// The chats that the suspect cards are in, before or after, and that of a renamed contact are the suspect chats.
+///
+/// - `card`: each chat that a suspect card is in, before or after, is suspect.
+/// - `chat`: a suspect chat is renamed, or such a card is in it, before or after.
+pub fn a_suspect_chat_has_a_suspect_card()
+    ensures card { (m n : Mailbox) (turn : Turn) (key : ChatKey) (id : Bytes) → is_suspect_card m n turn id ≡ true
+        → (is_chat key (chat m id) || is_chat key (chat n id)) ≡ true → is_suspect m n turn key ≡ true }
+    ensures chat { (m n : Mailbox) (turn : Turn) (key : ChatKey) → is_suspect m n turn key ≡ true
+        → (is_renamed m n turn key ≡ true) ⊎ ((id : Bytes) × (is_suspect_card m n turn id ≡ true) × ((is_chat key (chat m id) || is_chat key (chat n id)) ≡ true)) }
 {}
 
 /// Every chat that a change touches is suspect. So a program that looks at the suspect chats has all that show something of a
@@ -130,6 +156,40 @@ pub fn refolds_fit_the_cost()
         → refold_reads n keys ≤ length (cards_in m n held) + pairs_of m n (by_uid (cards_in m n held) (citing_unsettled m n)) }
     ensures cost { (m n : Mailbox) (keys held : List ChatKey) → IsDistinct key_eq keys → AllByRecursion (IsTouched m n) keys
         → HoldsTouched m n held → 4 * refold_reads n keys + 16 ≤ repair_cost m n held }
+{}
+
+/// To repair what is kept after a change, card by card, takes no more than the change may cost, in reads of kept cards.
+///
+/// - `key`: a key is among those of the touched chats just where its chat is suspect and is there, before or after.
+/// - `once`: each is there once.
+/// - `held`: for every change that a mailbox allows each of them is touched, and these are all.
+/// - `settling`: to settle different suspect cards reads no more than twice the cards of the touched chats, and the pairs of
+///   such a card and a card that names it.
+/// - `folding`: different ones of these chats have no more cards than are counted.
+/// - `draining`: nor are there more rows that fall due, of different uids.
+/// - `change`: all of these together, and 16 more, are within what the change may cost.
+pub fn a_repair_fits_the_cost()
+    ensures key { (m n : Mailbox) (turn : Turn) (key : ChatKey) → list_any (key_eq key) (touched_keys m n turn)
+        ≡ (is_suspect m n turn key && (has_chat m key || has_chat n key)) }
+    ensures once { (m n : Mailbox) (turn : Turn) → IsDistinct key_eq (touched_keys m n turn) }
+    ensures held { (m : Mailbox) (change : Change) → IsMailbox m → IsValidChange change → full m change ≡ false
+        → let n = after m change in let held = touched_keys m n (turn m change) in AllByRecursion (IsTouched m n) held × HoldsTouched m n held }
+    ensures settling { (m n : Mailbox) (turn : Turn) (ids : List Bytes) (held : List ChatKey) → m.me ≡ n.me → IsMailbox m
+        → IsMailbox n → IsTurn m n turn → IsDistinct bytes_eq ids → AllByRecursion (λ id. is_suspect_card m n turn id ≡ true) ids
+        → HoldsTouched m n held → sum_by (settle_reads m n) ids
+        ≤ 2 * length (cards_in m n held) + pairs_of m n (by_uid (cards_in m n held) (citing_unsettled m n)) }
+    ensures folding { (m n : Mailbox) (keys held : List ChatKey) → IsDistinct key_eq keys → AreHeld held keys
+        → sum_by (λ key. length (chat_mails n key)) keys ≤ length (cards_in m n held) }
+    ensures draining { (m n : Mailbox) (turn : Turn) (uids : List ℕ) (held : List ChatKey) → m.me ≡ n.me → IsMailbox m
+        → IsMailbox n → IsTurn m n turn → IsDistinct nat_eq uids
+        → AllByRecursion (λ uid. uid_falls_due m n.now uid ≡ true) uids
+        → HoldsTouched m n held → length uids ≤ length (cards_in m n held) }
+    ensures change { (m : Mailbox) (change : Change) (ids : List Bytes) (keys : List ChatKey) (uids : List ℕ) → IsMailbox m
+        → IsValidChange change → full m change ≡ false → let n = after m change in
+        IsDistinct bytes_eq ids → AllByRecursion (λ id. is_suspect_card m n (turn m change) id ≡ true) ids
+        → IsDistinct key_eq keys → AreHeld (touched_keys m n (turn m change)) keys → IsDistinct nat_eq uids
+        → AllByRecursion (λ uid. uid_falls_due m n.now uid ≡ true) uids
+        → sum_by (settle_reads m n) ids + sum_by (λ key. length (chat_mails n key)) keys + length uids + 16 ≤ change_cost m change }
 {}
 
 /// What a change leaves is known before it is made, so that a program may repair first and change the mailbox last.
