@@ -61,6 +61,17 @@ module _ {X : Type 0} (cmp : X → X → Ordering) (total : IsTotalOrder cmp) wh
   sorted_without [] x after s = s.1
   sorted_without (b ∷ before) x after s = (all_but (λ y. cmp b y ≡ Less) before x after s.0, sorted_without before x after s.1)
 
+  -- what is between them ties with none of them
+  pub none_tie : (before : List X) (x : X) (after : List X) → IsBetween before x after → list_any (eq_by_cmp cmp x) (before ++ after) ≡ false
+  unfolding IsStrictlySortedBy
+  none_tie [] x after s = later after s.0
+    where
+      later : (ys : List X) → AllByRecursion (λ y. cmp x y ≡ Less) ys → list_any (eq_by_cmp cmp x) ys ≡ false
+      later [] a = refl
+      later (y ∷ ys) a = rw (ap is_eq a.0) (later ys a.1)
+  none_tie (b ∷ before) x after s =
+      rw (ap is_eq (turned b x Less (middle (λ y. cmp b y ≡ Less) before x after s.0))) (none_tie before x after s.1)
+
   -- the place between what is below and what is above
   pub place_of : (before : List X) (x : X) (after : List X) (i : ℕ) → IsBetween before x after → i ≤ length (before ++ after)
       → IsPartitionPoint (λ y. cmp y x ≡ Less) (λ y. cmp y x ≡ Greater) (before ++ after) i → i ≡ length before

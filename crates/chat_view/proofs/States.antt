@@ -1,8 +1,8 @@
 -- The state of a chat with one more card.
-use Rattle.std.proofs.Common.{◌≡◌, refl, sym, ap, ◌∙◌, suc, ◌+◌, ◌<◌, Bool, true, false, cond, Some, is_some, List, [], ◌∷◌, ◌++◌, length, map, arith, append-nil}
+use Rattle.std.proofs.Common.{◌≡◌, refl, sym, ap, ◌∙◌, suc, ◌+◌, ◌<◌, Bool, true, false, cond, Some, is_some, List, [], ◌∷◌, ◌++◌, map, arith, append-nil}
 use Rattle.std.specs.Prelude.{if◌then◌else◌, filter}
 use Rattle.std.specs.Option.{option_map, option_map_or}
-use Rattle.std.proofs.lemmas.List.{length-map, map-append}
+use Rattle.std.proofs.lemmas.List.{map-append}
 use Rattle.std.proofs.lemmas.List.Elements.{filter-append}
 use Rattle.std.proofs.lemmas.List.Sums.{count_by-le-length, sum_by-append}
 use Rattle.card_type.specs.declared.key.ChatKey.{ChatKey}
@@ -12,6 +12,7 @@ use Rattle.mailbox_model.specs.Rows.{is_new}
 use Rattle.mailbox_model.specs.States.{Shown, last_spot, fresh_among}
 use Rattle.chat_view.specs.declared.state.ChatState.{ChatState}
 use Rattle.group_roster.specs.Setters.{RestsOn, at, setters_of}
+use Rattle.chat_view.specs.Changes.{AreFew}
 use Rattle.chat_view.specs.Standing.{StandsFor, placed_at, state_of}
 use Rattle.chat_view.proofs.Told.{cards_same}
 
@@ -40,11 +41,8 @@ fresh_more cards c = sum_by-append (λ d. cond (is_fresh d) 1 0) cards (c ∷ []
     by false = omega arith
 
 -- no more are fresh than there are
-pub few_fresh : (me : Bytes) (cards : List Shown) (s : ChatState) → StandsFor me cards s → length s.spots < 65536 → s.fresh < 4294967295
-few_fresh me cards s is few =
-    let known = ap (λ t. t.fresh) is in
-    let spots = ap (λ t. length t.spots) is in
-    omega (arith, few, known, spots, length-map cards (λ c. c.spot), count_by-le-length is_fresh cards)
+pub few_fresh : (me : Bytes) (cards : List Shown) (s : ChatState) → StandsFor me cards s → AreFew cards → s.fresh < 4294967295
+few_fresh me cards s is few = omega (arith, few, ap (λ t. t.fresh) is, count_by-le-length is_fresh cards)
 
 module _ (me : Bytes) (key : ChatKey) (cards : List Shown) (c : Shown) where
   pub state_more : (s : ChatState) → s.key ≡ key → s.spots ≡ map (λ d. d.spot) cards ++ c.spot ∷ [] → s.marks ≡ map (λ d. d.mark) cards ++ c.mark ∷ []

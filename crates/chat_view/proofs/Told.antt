@@ -14,7 +14,7 @@ use Rattle.mailbox_model.specs.States.{Shown, last_spot, fresh_among}
 use Rattle.group_roster.specs.Setters.{RestsOn}
 use Rattle.chat_view.specs.declared.state.ChatState.{ChatState}
 use Rattle.chat_view.specs.Changes.{count_new, last_shown, settled}
-use Rattle.chat_view.specs.Standing.{StandsFor, placed_at}
+use Rattle.chat_view.specs.Standing.{IsMarkedFor, StandsFor, placed_at}
 
 -- ---- the marks, from the end on
 
@@ -106,12 +106,26 @@ pub rests_on : (me : Bytes) (cards : List Shown) (s : ChatState) → StandsFor m
 rests_on me cards s is =
     record { roster = ap (λ t. t.roster) is ∙ ap (roster_of me s.key) (sym (cards_same cards)); setters = ap (λ t. t.setters) is }
 
--- a state whose parts are those of some cards stands for them
-pub settled_stands : (me : Bytes) (cards : List Shown) (spots : List Spot) (marks : List (Option Mark)) (s : ChatState)
-    → spots ≡ map (λ c. c.spot) cards → marks ≡ map (λ c. c.mark) cards → RestsOn me s.key (placed_at cards) s.roster s.setters
-    → StandsFor me cards (settled spots marks s)
-settled_stands me cards spots marks s spots_are marks_are rests =
+-- ---- a state that stands for cards, and one that is marked for them alone
+
+pub marked_from : (me : Bytes) (cards : List Shown) (s : ChatState) → StandsFor me cards s → IsMarkedFor cards s
+marked_from me cards s is =
+    record { spots = ap (λ t. t.spots) is; marks = ap (λ t. t.marks) is; last = ap (λ t. t.last) is; fresh = ap (λ t. t.fresh) is }
+
+-- it stands for them where its roster and its setters rest on them
+pub stands_from : (me : Bytes) (cards : List Shown) (s : ChatState) → IsMarkedFor cards s → RestsOn me s.key (placed_at cards) s.roster s.setters
+    → StandsFor me cards s
+stands_from me cards s is rests =
     let roster = rests.roster ∙ ap (roster_of me s.key) (cards_same cards) in
-    let last = (λ k. option_and_then (slice_get (spots_are k)) (last_shown (marks_are k))) ∙ told_last cards in
-    let fresh = ap count_new marks_are ∙ told_fresh cards in
-    λ k. record { key = s.key; spots = spots_are k; marks = marks_are k; roster = roster k; setters = rests.setters k; last = last k; fresh = fresh k }
+    λ k. record { key = s.key; spots = is.spots k; marks = is.marks k; roster = roster k; setters = rests.setters k; last = is.last k; fresh = is.fresh k }
+
+-- a state whose spots and marks are those of some cards, and the rest told of them
+pub settled_marked : (cards : List Shown) (spots : List Spot) (marks : List (Option Mark)) (s : ChatState)
+    → spots ≡ map (λ c. c.spot) cards → marks ≡ map (λ c. c.mark) cards → IsMarkedFor cards (settled spots marks s)
+settled_marked cards spots marks s spots_are marks_are =
+    record {
+      spots = spots_are;
+      marks = marks_are;
+      last = (λ k. option_and_then (slice_get (spots_are k)) (last_shown (marks_are k))) ∙ told_last cards;
+      fresh = ap count_new marks_are ∙ told_fresh cards;
+    }

@@ -1,5 +1,5 @@
 -- What becomes of the state of a chat where a card comes or goes, or where its row is marked anew.
-use Rattle.std.specs.Prelude.{ℕ, suc, Bool, false, not, ◌&&◌, ◌||◌, if◌then◌else◌, nat_lt, Option, Some, None, is_some, List, [], ◌∷◌, length, map, count_by, slice_get, slice_set, option_map}
+use Rattle.std.specs.Prelude.{ℕ, suc, Bool, false, not, ◌<◌, ◌&&◌, ◌||◌, if◌then◌else◌, nat_lt, Option, Some, None, is_some, List, [], ◌∷◌, length, map, count_by, slice_get, slice_set, option_map}
 use Rattle.std.specs.List.{insert, list_all, list_any, remove}
 use Rattle.std.specs.List.Sorted.{IsStrictlySortedBy}
 use Rattle.std.specs.Option.{option_and_then, option_map_or, option_or}
@@ -16,6 +16,10 @@ use Rattle.chat_view.specs.declared.state.ChatState.{ChatState}
 -- in mail order, no two at one spot
 abbrev pub AreInOrder : List Shown → Type 0
 AreInOrder cards = IsStrictlySortedBy spot_cmp (map (λ c. c.spot) cards)
+
+-- so few that they and one more are counted in a `u32`
+abbrev pub AreFew : List Shown → Type 0
+AreFew cards = length cards < 4294967295
 
 abbrev pub has_spot : ChatState → Spot → Bool
 has_spot s spot = list_any (eq_by_cmp spot_cmp spot) s.spots

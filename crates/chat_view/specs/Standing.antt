@@ -31,6 +31,13 @@ state_of me key cards =
 abbrev pub StandsFor : Bytes → List Shown → ChatState → Type 0
 StandsFor me cards s = s ≡ state_of me s.key cards
 
+-- all of a state but its roster and its setters is told of these cards
+pub record IsMarkedFor (cards : List Shown) (s : ChatState) : Type 0 where
+  pub spots : s.spots ≡ map (λ c. c.spot) cards
+  pub marks : s.marks ≡ map (λ c. c.mark) cards
+  pub last : s.last ≡ last_spot cards
+  pub fresh : s.fresh ≡ fresh_among cards
+
 -- a card at its spot, with the mark of its row where it is shown
 abbrev pub shown : Spot → Card → Option Mark → Shown
 shown spot card mark = record { spot = spot; card = card; mark = mark }

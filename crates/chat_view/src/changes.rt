@@ -1,5 +1,5 @@
 //! How the state of a chat follows a card that comes, goes or is marked anew, and reads no other card.
-ghost use Rattle.std.specs.Prelude.{◌≡◌, ◌<◌, ◌≤◌, ◌&&◌, [], ◌∷◌, ◌++◌, List, Option, true, false, length, nat_lt, slice_get, IfOk, OnOk};
+ghost use Rattle.std.specs.Prelude.{◌≡◌, ◌<◌, ◌&&◌, [], ◌∷◌, ◌++◌, List, Option, true, false, length, nat_lt, slice_get, IfOk, OnOk};
 ghost use Rattle.group_roster.specs.Setters.{at, stays_with, stays_without};
 ghost use Rattle.std.specs.List.Sorted.{IsStrictlySortedBy};
 ghost use Rattle.std.specs.Option.{option_and_then};
@@ -8,8 +8,8 @@ ghost use Rattle.mailbox_model.specs.declared.row.Mark.{Mark};
 ghost use Rattle.mailbox_model.specs.Lists.{Bytes};
 ghost use Rattle.mailbox_model.specs.States.{Shown};
 ghost use Rattle.card_type.specs.declared.card.Card.{Card};
-ghost use Rattle.chat_view.specs.Changes.{AreInOrder, count_new, has_spot, last_shown, lets_go, marked_at, settled, takes_in, with_at, without_at};
-ghost use Rattle.chat_view.specs.Standing.{StandsFor, shown};
+ghost use Rattle.chat_view.specs.Changes.{AreFew, AreInOrder, count_new, has_spot, last_shown, lets_go, marked_at, settled, takes_in, with_at, without_at};
+ghost use Rattle.chat_view.specs.Standing.{IsMarkedFor, StandsFor, shown};
 
 use crate::state::ChatState;
 use card_type::{Card, Spot};
@@ -144,13 +144,12 @@ impl ChatState {
         mark: Option<Mark>,
         me: &Addr,
     ) -> Result<bool, Memory>
-        requires { length self.old.spots < 65536 }
         ensures key { OnOk result (self.new.key ≡ self.old.key) }
         ensures when { IfOk result (λ taken. taken ≡ true) }
-        ensures stands { OnOk result ((cards : List Shown) → StandsFor me.now cards self.old
+        ensures stands { OnOk result ((cards : List Shown) → AreFew cards → StandsFor me.now cards self.old
             → StandsFor me.now (cards ++ shown spot.now card.now mark ∷ []) self.new) }
     {
-        self.add(alloc, spot, card, mark, me)?;
+        self.push(alloc, spot, card, mark, me)?;
         Ok(true)
     }
 
@@ -172,10 +171,9 @@ impl ChatState {
         mark: Option<Mark>,
         me: &Addr,
     ) -> Result<bool, Memory>
-        requires { length self.old.spots < 65536 }
         ensures key { OnOk result (self.new.key ≡ self.old.key) }
         ensures when { IfOk result (λ taken. IsStrictlySortedBy spot_cmp self.old.spots → taken ≡ takes_in self.old spot.now card.now) }
-        ensures taken { IfOk result (λ taken. taken ≡ true → (before after : List Shown)
+        ensures taken { IfOk result (λ taken. taken ≡ true → (before after : List Shown) → AreFew (before ++ after)
             → AreInOrder (before ++ shown spot.now card.now mark ∷ after) → StandsFor me.now (before ++ after) self.old
             → StandsFor me.now (before ++ shown spot.now card.now mark ∷ after) self.new) }
         ensures left { IfOk result (λ taken. taken ≡ false → self.new ≡ self.old) }
@@ -202,10 +200,9 @@ impl ChatState {
     /// - `taken`: after yes a state that stood for this card and the others stands for the others.
     /// - `left`: after no the state is as before: it can't tell what the roster is without the card.
     pub fn take_out(&mut self, spot: &Spot, card: &Card) -> Result<bool, Memory>
-        requires { length self.old.spots ≤ 65536 }
         ensures key { OnOk result (self.new.key ≡ self.old.key) }
         ensures when { IfOk result (λ taken. IsStrictlySortedBy spot_cmp self.old.spots → taken ≡ lets_go self.old spot.now card.now) }
-        ensures taken { IfOk result (λ taken. taken ≡ true → (me : Bytes) (before after : List Shown) (mark : Option Mark)
+        ensures taken { IfOk result (λ taken. taken ≡ true → (me : Bytes) (before after : List Shown) (mark : Option Mark) → AreFew (before ++ after)
             → AreInOrder (before ++ shown spot.now card.now mark ∷ after) → StandsFor me (before ++ shown spot.now card.now mark ∷ after) self.old
             → StandsFor me (before ++ after) self.new) }
         ensures left { IfOk result (λ taken. taken ≡ false → self.new ≡ self.old) }
@@ -222,17 +219,62 @@ impl ChatState {
     ///
     /// - `key`: the key stays.
     /// - `stands`: a state that stood for cards, this one among them, stands for them with the other mark.
+    /// - `marked`: a state that was marked for them, whatever its roster, is marked for them with the other mark.
     /// - `absent`: where no card is at the spot, the state stays as it is.
     pub fn remark(&mut self, spot: &Spot, mark: Option<Mark>) -> Result<(), Memory>
-        requires { length self.old.spots ≤ 65536 }
         ensures key { OnOk result (self.new.key ≡ self.old.key) }
-        ensures stands { OnOk result ((me : Bytes) (before after : List Shown) (card : Card) (other : Option Mark)
+        ensures stands { OnOk result ((me : Bytes) (before after : List Shown) (card : Card) (other : Option Mark) → AreFew (before ++ after)
             → AreInOrder (before ++ shown spot.now card other ∷ after) → StandsFor me (before ++ shown spot.now card other ∷ after) self.old
             → StandsFor me (before ++ shown spot.now card mark ∷ after) self.new) }
+        ensures marked { OnOk result ((before after : List Shown) (card : Card) (other : Option Mark) → AreFew (before ++ after)
+            → AreInOrder (before ++ shown spot.now card other ∷ after) → IsMarkedFor (before ++ shown spot.now card other ∷ after) self.old
+            → IsMarkedFor (before ++ shown spot.now card mark ∷ after) self.new) }
         ensures absent { OnOk result (IsStrictlySortedBy spot_cmp self.old.spots → has_spot self.old spot.now ≡ false → self.new ≡ self.old) }
     {
         match self.spots.as_slice().binary_search(spot) {
             Ok(index) => self.mark_at(index, mark),
+            Err(_) => Ok(()),
+        }
+    }
+}
+
+impl ChatState {
+    /// Puts the spot and the mark of a card in at their place in mail order, and leaves the roster as it is, whether that
+    /// is right or not: it has to be told of the cards anew. Takes memory, and time in proportion to the number of spots;
+    /// `Err` only when memory runs out, and then the state may only be dropped.
+    ///
+    /// - `key`: the key stays.
+    /// - `marked`: a state that was marked for the other cards is marked for them and this one.
+    /// - `there`: where a card is at the spot, the state stays as it is.
+    pub fn place(&mut self, spot: &Spot, mark: Option<Mark>) -> Result<(), Memory>
+        ensures key { OnOk result (self.new.key ≡ self.old.key) }
+        ensures marked { OnOk result ((before after : List Shown) (card : Card) → AreFew (before ++ after)
+            → AreInOrder (before ++ shown spot.now card mark ∷ after) → IsMarkedFor (before ++ after) self.old
+            → IsMarkedFor (before ++ shown spot.now card mark ∷ after) self.new) }
+        ensures there { OnOk result (IsStrictlySortedBy spot_cmp self.old.spots → has_spot self.old spot.now ≡ true → self.new ≡ self.old) }
+    {
+        match self.spots.as_slice().binary_search(spot) {
+            Ok(_) => Ok(()),
+            Err(index) => self.insert(index, spot, mark),
+        }
+    }
+
+    /// Takes the spot and the mark of a card out, and leaves the roster as it is, whether that is right or not: it has to
+    /// be told of the cards anew. Takes memory for the spot of the last card that is shown, and time in proportion to the
+    /// number of spots; `Err` only when memory runs out, and then the state may only be dropped.
+    ///
+    /// - `key`: the key stays.
+    /// - `marked`: a state that was marked for this card and the others is marked for the others.
+    /// - `absent`: where no card is at the spot, the state stays as it is.
+    pub fn displace(&mut self, spot: &Spot) -> Result<(), Memory>
+        ensures key { OnOk result (self.new.key ≡ self.old.key) }
+        ensures marked { OnOk result ((before after : List Shown) (card : Card) (mark : Option Mark) → AreFew (before ++ after)
+            → AreInOrder (before ++ shown spot.now card mark ∷ after) → IsMarkedFor (before ++ shown spot.now card mark ∷ after) self.old
+            → IsMarkedFor (before ++ after) self.new) }
+        ensures absent { OnOk result (IsStrictlySortedBy spot_cmp self.old.spots → has_spot self.old spot.now ≡ false → self.new ≡ self.old) }
+    {
+        match self.spots.as_slice().binary_search(spot) {
+            Ok(index) => self.remove(index),
             Err(_) => Ok(()),
         }
     }

@@ -3,6 +3,7 @@ ghost use Rattle.std.specs.Prelude.{◌≡◌, ◌<◌, [], ◌∷◌, ◌++◌,
 ghost use Rattle.std.specs.Option.{option_map_or};
 ghost use Rattle.mailbox_model.specs.Rows.{is_new};
 ghost use Rattle.mailbox_model.specs.States.{Shown};
+ghost use Rattle.chat_view.specs.Changes.{AreFew};
 ghost use Rattle.chat_view.specs.Standing.{StandsFor, shown};
 
 use crate::series::Series;
@@ -92,6 +93,22 @@ impl ChatState {
         requires { length self.old.spots < 65536 }
         ensures key { OnOk result (self.new.key ≡ self.old.key) }
         ensures stands { OnOk result ((cards : List Shown) → StandsFor me.now cards self.old
+            → StandsFor me.now (cards ++ shown spot.now card.now mark ∷ []) self.new) }
+    {
+        self.push(alloc, spot, card, mark, me)
+    }
+
+    /// Adds the next card of the chat, where a `u32` counts its cards.
+    pub(crate) fn push(
+        &mut self,
+        alloc: Global,
+        spot: &Spot,
+        card: &Card,
+        mark: Option<Mark>,
+        me: &Addr,
+    ) -> Result<(), Memory>
+        ensures key { OnOk result (self.new.key ≡ self.old.key) }
+        ensures stands { OnOk result ((cards : List Shown) → AreFew cards → StandsFor me.now cards self.old
             → StandsFor me.now (cards ++ shown spot.now card.now mark ∷ []) self.new) }
     {
         self.spots.push(spot.copy()?)?;

@@ -81,8 +81,9 @@ impl Contacts {
         self.names.last(addr)
     }
 
-    /// The name of an address, else the address.
-    fn shown_name(&self, alloc: Global, addr: &Addr) -> Result<Text, Memory>
+    /// The name under which an address is shown: its last name in mail order, else the address. Takes memory; `Err` only when
+    /// it runs out. Takes the time of `name_of`.
+    pub fn shown_name(&self, alloc: Global, addr: &Addr) -> Result<Text, Memory>
         ensures { IfOk result (λ name. name ≡ shown_name self.now addr.now) }
     {
         match self.name_of(addr) {

@@ -49,8 +49,8 @@ fn first_of(ids: &[Id]) -> &[Id]
     }
 }
 
-/// The ids that a card names.
-fn names(card: &Card) -> &[Id]
+/// The ids that a card names, in its order: those on which its mail may act. Takes no memory.
+pub fn names(card: &Card) -> &[Id]
     ensures { result.now ≡ names card.now }
 {
     match kind_of(card) {

@@ -5,5 +5,5 @@ mod effects;
 mod laws;
 mod named;
 
-pub use effects::Effects;
+pub use effects::{Effects, names};
 pub use laws::effects_follow_from_cards;

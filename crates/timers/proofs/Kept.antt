@@ -134,6 +134,11 @@ pub known_rest : (m n ds : Deadlines) (p : ℕ × ℕ) → ((q : ℕ) → lookup
 unfolding IsStrictlySortedBy
 known_rest m n ds p only known rises = still_known m n ds p.1 None only (others m p ds known rises.0) known.1
 
+-- and nothing is left of the uid of the least one
+pub none_left : (m : Deadlines) (p : ℕ × ℕ) (ds : Deadlines) → AreKnown m (p ∷ ds) → IsStrictlySortedBy deadline_cmp (p ∷ ds) → without_uid p.1 ds ≡ ds
+unfolding IsStrictlySortedBy
+none_left m p ds known rises = none_filtered (of_uid p.1) ds (others m p ds known rises.0)
+
 -- what is taken out first is the first
 pub popped : (taken : Option (ℕ × ℕ)) (p : ℕ × ℕ) (old new : Deadlines) → IfSome taken (λ q. old ≡ q ∷ new) → (IsSome taken ↔ (0 < length old))
     → slice_get old 0 ≡ Some p → old ≡ p ∷ new

@@ -65,9 +65,12 @@ impl Timers {
     /// Takes out the least deadline where it is at most `now`, in seconds since 1970-01-01 00:00:00 UTC, and returns the
     /// number of its mail; of equal moments the mail with the least number is first. `None` exactly where no deadline
     /// is at most `now`. Takes no memory.
+    ///
+    /// - `once`: no other deadline is of that mail.
     pub fn due(&mut self, now: u64) -> Option<u32>
         ensures order { IsStrictlySortedBy deadline_cmp self.old }
         ensures some { IfSome result (λ uid. (expiry : ℕ) × (expiry ≤ now) × (self.old ≡ (expiry, uid) ∷ self.new)) }
+        ensures once { IfSome result (λ uid. without_uid uid self.new ≡ self.new) }
         ensures none { IfNone result ((self.new ≡ self.old) × AllByRecursion (λ p. now < p.0) self.old) }
     {
         let &(expiry, uid) = self.deadlines.first()?;

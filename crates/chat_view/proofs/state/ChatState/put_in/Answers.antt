@@ -7,9 +7,11 @@ use Rattle.card_type.specs.Spots.{spot_cmp}
 use Rattle.card_type.proofs.Orders.{spots_total}
 use Rattle.group_roster.specs.Setters.{at, stays_with}
 use Rattle.sorted_lists.proofs.Searches.{searched}
+use Rattle.chat_view.specs.Changes.{AreFew}
 use Rattle.chat_view.specs.Standing.{StandsFor, shown}
-use Rattle.chat_view.proofs.Changed.{as_many, both_clauses, put_last, put_place, put_stands, on_ok_each}
+use Rattle.chat_view.proofs.Changed.{both_clauses, few_without, put_last, put_place, put_stands, on_ok_each}
 use Rattle.chat_view.proofs.Placed.{all_below, none_ties, one_above}
+use Rattle.chat_view.proofs.Told.{marked_from}
 use Rattle.chat_view.proofs.state.ChatState.put_in.Goals as goal
 
 pub returns-in-Ok-clause-when : goal.returns-in-Ok-clause-when
@@ -46,11 +48,11 @@ returns-then-index-len-clause-taken c =
     let i = c.in-Err.index in
     let within : i ≤ length state.spots = subst (λ xs. i ≤ length xs) c.as_slice.ensures c.in-Err.ensures.bound in
     let found : IsBinarySearchResult (λ y. spot_cmp y spot) state.spots (Err i) = subst (λ xs. IsBinarySearchResult (λ y. spot_cmp y spot) xs (Err i)) c.as_slice.ensures c.in-Err.ensures.position in
-    both_clauses c.put_among.result _ _ _ (λ taken when put yes before after order is.
-    let place = put_place before spot card mark after me state is order i within found in
-    let few : length state.marks < 4294967295 = omega (arith, as_many me (before ++ after) state is, c.requires) in
-    subst (StandsFor me (before ++ shown spot card mark ∷ after)) (sym (put yes few))
-    (put_stands before spot card mark after me state is order i place (sym when ∙ yes)))
+    both_clauses c.put_among.result _ _ _ (λ taken when put yes before after few order is.
+    let marked = marked_from me (before ++ after) state is in
+    let place = put_place before spot card mark after state marked.spots order i within found in
+    subst (StandsFor me (before ++ shown spot card mark ∷ after)) (sym (put yes (few_without before spot card mark after state marked few)))
+    (put_stands before spot card mark after state i place me is order (sym when ∙ yes)))
     c.put_among.ensures.when c.put_among.ensures.taken
 
 pub returns-else-index-len-clause-when : goal.returns-else-index-len-clause-when
@@ -79,10 +81,11 @@ returns-else-index-len-clause-taken c =
     let within : i ≤ length state.spots = subst (λ xs. i ≤ length xs) c.as_slice.ensures c.in-Err.ensures.bound in
     let found : IsBinarySearchResult (λ y. spot_cmp y spot) state.spots (Err i) = subst (λ xs. IsBinarySearchResult (λ y. spot_cmp y spot) xs (Err i)) c.as_slice.ensures c.in-Err.ensures.position in
     let end : length state.spots ≤ i = omega (arith, c.len.ensures, c.if-index-len.false) in
-    on_ok_each c.put_last.result (λ stands taken yes before after order is.
-    let place = put_place before spot card mark after me state is order i within found in
-    let none = put_last before spot card mark after me state is order i place end in
-    let alone = subst (λ later. StandsFor me (before ++ later) state) none is in
+    on_ok_each c.put_last.result (λ stands taken yes before after few order is.
+    let spots = ap (λ t. t.spots) is in
+    let place = put_place before spot card mark after state spots order i within found in
+    let none = put_last before spot card mark after state spots order i place end in
+    let all = ap (λ later. before ++ later) none ∙ append-nil before in
     subst (λ later. StandsFor me (before ++ shown spot card mark ∷ later) c.put_last.new.self) (sym none)
-    (stands before (subst (λ cards. StandsFor me cards state) (append-nil before) alone)))
+    (stands before (subst AreFew all few) (subst (λ cards. StandsFor me cards state) all is)))
     c.put_last.ensures.stands

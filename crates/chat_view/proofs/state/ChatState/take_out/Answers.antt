@@ -1,4 +1,4 @@
-use Rattle.std.proofs.Common.{◌≡◌, refl, sym, ap, ◌∙◌, subst, ◌<◌, ◌&&◌, is_ok, ◌∷◌, ◌++◌, length, arith}
+use Rattle.std.proofs.Common.{◌≡◌, refl, sym, ap, ◌∙◌, subst, ◌<◌, ◌&&◌, is_ok, ◌∷◌, ◌++◌, length}
 use Rattle.std.specs.Prelude.{nat_lt}
 use Rattle.std.specs.List.{HoldsAt}
 use Rattle.std.specs.List.Sorted.{IsBinarySearchResult, IsSearchInRange}
@@ -9,7 +9,8 @@ use Rattle.std.proofs.lemmas.Bool.{and_parts, ltb-true}
 use Rattle.std.proofs.lemmas.Result.{IfOk-weaker}
 use Rattle.group_roster.specs.Setters.{at, stays_without}
 use Rattle.chat_view.specs.Standing.{StandsFor, shown}
-use Rattle.chat_view.proofs.Changed.{as_many, both_clauses, taken_stands, there_place}
+use Rattle.chat_view.proofs.Changed.{both_clauses, few_with, taken_stands, there_place}
+use Rattle.chat_view.proofs.Told.{marked_from}
 use Rattle.sorted_lists.proofs.Searches.{searched}
 use Rattle.chat_view.proofs.state.ChatState.take_out.Goals as goal
 
@@ -41,10 +42,10 @@ returns-in-Ok-clause-taken c =
     let i = c.in-Ok.index in
     let within : i < length state.spots = subst (λ xs. i < length xs) c.as_slice.ensures c.in-Ok.ensures.bound in
     let found : HoldsAt (λ y. spot_cmp y spot ≡ Equal) state.spots i = subst (λ xs. HoldsAt (λ y. spot_cmp y spot ≡ Equal) xs i) c.as_slice.ensures c.in-Ok.ensures.ok in
-    both_clauses c.take_at.result _ _ _ (λ taken when out yes me before after mark order is.
-    let place = there_place before spot card mark after me state is order i within found in
-    let few : length state.marks < 4294967296 = omega (arith, as_many me (before ++ shown spot card mark ∷ after) state is, c.requires) in
+    both_clauses c.take_at.result _ _ _ (λ taken when out yes me before after mark few order is.
+    let marked = marked_from me (before ++ shown spot card mark ∷ after) state is in
+    let place = there_place before spot card mark after state marked.spots order i within found in
     let parts = and_parts (nat_lt 1 (length state.spots)) (stays_without state.key state.setters (at spot card)) (sym when ∙ yes) in
-    subst (StandsFor me (before ++ after)) (sym (out yes few))
-    (taken_stands before spot card mark after me state is order i place (ltb-true 1 (length state.spots) parts.0) parts.1))
+    subst (StandsFor me (before ++ after)) (sym (out yes (few_with before spot card mark after state marked few)))
+    (taken_stands before spot card mark after state i place me is order (ltb-true 1 (length state.spots) parts.0) parts.1))
     c.take_at.ensures.when c.take_at.ensures.taken
