@@ -14,7 +14,7 @@ use Rattle.mailbox_model.specs.Mailbox.{Mailbox}
 use Rattle.mailbox_model.specs.Pages.{keys}
 use Rattle.mailbox_model.specs.Present.{Mail}
 use Rattle.mailbox_model.proofs.ListLaws.{keys_are}
-use Rattle.engine.specs.Costs.{load, page_cost, pairs}
+use Rattle.indexes.specs.Costs.{page_cost, pairs}
 use Rattle.answers.specs.Answers.{named_key}
 use Rattle.answers.specs.Costs.{answer_cost}
 use Rattle.answers.specs.declared.question.Question.TheVariants as question
@@ -35,6 +35,6 @@ named_cost m key text is = by (list_any (key_eq key) (keys m)) refl ∙ sym (ap 
     by true e = ap (λ b. option_map_or (page_cost m) (if b then Some key else None) 0) (sym e)
     by false e = none_costs m key e ∙ ap (λ b. option_map_or (page_cost m) (if b then Some key else None) 0) (sym e)
 
-pub within_cost : (m : Mailbox) (key : ChatKey) (text : Bytes) (old new : ℕ) → key_text key ≡ text → new ≤ old + (load m + page_cost m key)
+pub within_cost : (m : Mailbox) (key : ChatKey) (text : Bytes) (old new : ℕ) → key_text key ≡ text → new ≤ old + page_cost m key
     → new ≤ old + answer_cost m (question.Chat text)
-within_cost m key text old new is within = subst (λ cost. new ≤ old + (load m + cost)) (named_cost m key text is) within
+within_cost m key text old new is within = subst (λ cost. new ≤ old + cost) (named_cost m key text is) within

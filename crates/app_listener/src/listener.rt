@@ -3,7 +3,7 @@ ghost use Rattle.std.specs.Prelude.{◌≡◌, ◌+◌, ◌≤◌, [], Bool, tru
 ghost use Rattle.mailbox_model.specs.declared.row.UpdateRow.{UpdateRow};
 ghost use Rattle.mailbox_model.specs.Mailbox.{max_total_weight};
 ghost use Rattle.mailbox_model.specs.Pages.{updates};
-ghost use Rattle.engine.specs.Costs.{load, row_cost};
+ghost use Rattle.indexes.specs.Costs.{row_cost};
 ghost use Rattle.engine.specs.Followed.{IsUpdatesCause};
 ghost use Rattle.app_listener.specs.Hearing.{back_to, having_heard, shown_updates, wanted_over};
 
@@ -78,7 +78,7 @@ impl<T: Test> Listener<T> {
     /// - `max`: all updates count, also those that are not wanted.
     /// - `kept`: the updates as they are now have then been heard of.
     /// - `refused`, `cause`: each refusal has its cause, and leaves the listener as before.
-    /// - `cost`: it reads kept cards no more often than `Engine::updates` of the app.
+    /// - `cost`: it reads kept cards no more often than the cost of one row says.
     pub fn hear<L: Ledger>(
         &mut self,
         engine: &Engine,
@@ -92,7 +92,7 @@ impl<T: Test> Listener<T> {
         ensures refused { OnErr result (self.new ≡ self.old) }
         ensures stale { engine.now.stale ≡ true → IsErrOf result AskFault.Stale }
         ensures cause { IfErr result (IsUpdatesCause self.old.id engine.now) }
-        ensures cost { steps.new ≤ steps.old + (load engine.now.mailbox + row_cost engine.now.mailbox self.old.id) }
+        ensures cost { steps.new ≤ steps.old + row_cost engine.now.mailbox self.old.id }
     {
         // For its clause `rules`: no app of a mailbox has 2^32 updates.
         let _me = engine.mailbox().me();

@@ -1,5 +1,5 @@
 -- An engine as contracts see it, and why it refuses.
-use Rattle.std.specs.Prelude.{◌≡◌, Bool, true, false, None}
+use Rattle.std.specs.Prelude.{◌≡◌, Bool, true, false, None, List}
 use Rattle.card_type.specs.declared.key.ChatKey.{ChatKey}
 use Rattle.mailbox_model.specs.declared.change.Change.{Change}
 use Rattle.mailbox_model.specs.Lists.{Bytes}
@@ -12,9 +12,10 @@ use Rattle.engine.specs.declared.fault.ApplyFault.TheVariants as apply
 use Rattle.engine.specs.declared.fault.AskFault.{AskFault}
 use Rattle.engine.specs.declared.fault.AskFault.TheVariants as ask
 
--- the mailbox that it follows, and whether it is stale
+-- the mailbox that it follows, the keys of the chats that the last change touched, and whether it is stale
 pub record Followed : Type 0 where
   pub mailbox : Mailbox
+  pub touched : List ChatKey
   pub stale : Bool
 
 -- why a change was not made, and what it left as before: all but where memory ran out, and then the mailbox
@@ -32,6 +33,12 @@ abbrev pub IsUnprepared : Bool → Mailbox → Change → ApplyFault → Type 0
 IsUnprepared stale m change apply.Full = (stale ≡ false) × (full m change ≡ true)
 IsUnprepared stale m change apply.Stale = stale ≡ true
 IsUnprepared stale m change apply.Memory = IsPrepared stale m change
+
+-- and what it was that let nothing be repaired, where the last says whether the engine is stale then
+abbrev pub IsUnrepaired : Bool → Mailbox → Change → Bool → ApplyFault → Type 0
+IsUnrepaired stale m change after apply.Full = (stale ≡ false) × (full m change ≡ true) × (after ≡ false)
+IsUnrepaired stale m change after apply.Stale = (stale ≡ true) × (after ≡ true)
+IsUnrepaired stale m change after apply.Memory = IsPrepared stale m change
 
 -- why there is no answer: only a chat that is asked for may be missing, and only an app
 abbrev pub IsListCause : Followed → AskFault → Type 0

@@ -1,13 +1,8 @@
 //! The engine: a mailbox, what is kept beside it, and the four questions that are asked of it.
 #![tactic(auto)]
 
-mod build;
 mod engine;
 mod fault;
-mod indexes;
-mod pages;
-mod present;
-mod rows;
 
 pub use engine::Engine;
 pub use fault::{ApplyFault, AskFault};

@@ -19,6 +19,7 @@ use Rattle.state_store.proofs.Appending.{is_settled}
 use Rattle.keeper.specs.Keeping.{Keeping, is_refused}
 use Rattle.keeper.specs.Pending.{PendingChanges, none_pending, with_change}
 use Rattle.keeper.specs.Opening.{AllFindSame, IsOthers, load_of}
+use Rattle.touched_chats.specs.Costs.{change_cost}
 use Rattle.follower.specs.declared.fault.Input.{Input}
 use Rattle.follower.specs.declared.fault.Input.TheVariants.{Mbox, Steps}
 use Rattle.follower.specs.declared.fault.RunFault.{RunFault}
@@ -28,12 +29,13 @@ use Rattle.follower.specs.Feed.{Feed, after_fed, coming, fed_first, lines_left, 
 use Rattle.follower.specs.Following.{Following, IsFollowFault, lines_ahead, mails_ahead, to_come}
 use Rattle.follower.specs.Opening.{IsOpenFault, OnOtherMe, StartsLines, StartsMbox}
 use Rattle.follower.specs.Reached.{reached}
-use Rattle.follower.specs.Spending.{Counts, RoseWithin, counts, run_spends}
+use Rattle.follower.specs.Spending.{Counts, RoseWithin, counts, next_cost, run_spends}
 use Rattle.follower.proofs.Committing.{sum_within, way_first, way_on, way_spends}
 use Rattle.follower.proofs.Rounds.{free_stop, stops_at}
+use Rattle.follower.proofs.Spending.{next_is}
 use Rattle.follow.specs.declared.status.Refusal.{Refusal}
 use Rattle.follow.specs.declared.status.Refusal.TheVariants as refusal
-use Rattle.follow.specs.Outcome.{Given, KeepsAll, MayStand, SameState, changes, commits_from, commits_if, follow_spends, followed, followed_from, followed_if, given_of, kept, kept_from, kept_if, short_of, short_steps, steps_found, unfit}
+use Rattle.follow.specs.Outcome.{Given, KeepsAll, MayStand, SameState, changes, spent_from, spent_if, follow_spends, followed, followed_from, followed_if, given_of, kept, kept_from, kept_if, short_of, short_steps, steps_found, unfit}
 use Rattle.follow.specs.Replies.{BeginFails, Begun, FollowGoes, FollowStops, IsState}
 
 -- ---- what is fit to be followed
@@ -220,38 +222,41 @@ module _ (k : Keeping) (mails : List Mail) (moment : ℕ) (now : Counts) where
   abbrev all : Feed
   all = whole k mails moment
 
-  pub moment_refused : (seen : Option Places) (outcomes : Places → Type 0) (why : RunFault) → IsKnown seen (Way (outset k now) all all k now) → k.pending ≡ none_pending
-      → WhereKnown seen (IsStored k.store outcomes) → (why ≡ fault.Full) ⊎ (why ≡ fault.Memory) → (why ≡ fault.Full → is_refused k.state (At moment) ≡ true) → Stops why (outset k now) all now outcomes
-  moment_refused seen outcomes why known none stored (inl full) refused = subst (λ (e : RunFault). Stops e (outset k now) all now outcomes) (sym full)
-      (stops_at (outset k now) all now outcomes seen all k known (omega (arith, ap (λ (p : PendingChanges). p.count) none)) stored fault.Full
-      (record { fed = moment_fed k.state.position moment; others = coming None (after_fed k.state (moment_fed k.state.position moment)) mails None; first = refl; refused = refused full }))
-  moment_refused seen outcomes why known none stored (inr memory) refused =
-      free_stop (outset k now) all now outcomes seen why (inr memory) (way_spends (outset k now) all all k now known.places known.holds)
+  -- the moment reads no more than it may cost
+  pub moment_costs : (to : ℕ) → to ≤ now.reads + change_cost k.state.mailbox (At moment) → RoseWithin now (counts (next_cost k.state all.changes) 0) (counts to now.written)
+  moment_costs to cost = record {
+    reads = omega (arith, cost, next_is k.state all (moment_fed k.state.position moment) (coming None (after_fed k.state (moment_fed k.state.position moment)) mails None) refl);
+    written = omega arith;
+  }
 
-  pub moment_made : (seen : Option Places) (old new : Following) (left : Option Bytes) (rest : Bytes) → left ≡ Some rest → mails ≡ mails_ahead old rest → new.mbox ≡ old.mbox
+  pub moment_refused : (later : Counts) → RoseWithin now (counts (next_cost k.state all.changes) 0) later
+      → (seen : Option Places) (outcomes : Places → Type 0) (why : RunFault) → IsKnown seen (Way (outset k now) all all k now) → k.pending ≡ none_pending
+      → WhereKnown seen (IsStored k.store outcomes) → (why ≡ fault.Full) ⊎ (why ≡ fault.Memory) → (why ≡ fault.Full → is_refused k.state (At moment) ≡ true) → Stops why (outset k now) all later outcomes
+  moment_refused later costs seen outcomes why known none stored (inl full) refused = subst (λ (e : RunFault). Stops e (outset k now) all later outcomes) (sym full)
+      (stops_at (outset k now) all now outcomes seen all k later known (omega (arith, ap (λ (p : PendingChanges). p.count) none)) stored fault.Full
+      (record { fed = moment_fed k.state.position moment; others = coming None (after_fed k.state (moment_fed k.state.position moment)) mails None; first = refl; refused = refused full }) costs)
+  moment_refused later costs seen outcomes why known none stored (inr memory) refused =
+      free_stop (outset k now) all later outcomes seen why (inr memory) (way_spends (outset k now) all all k now known.places known.holds later costs)
+
+  pub moment_made : (later : Counts) → RoseWithin now (counts (next_cost k.state all.changes) 0) later → (seen : Option Places) (old new : Following) (left : Option Bytes) (rest : Bytes) → left ≡ Some rest → mails ≡ mails_ahead old rest → new.mbox ≡ old.mbox
       → IsKnown seen (Way (outset k now) all all k now) → is_refused k.state (At moment) ≡ false → new.keeper.state ≡ after_fed k.state (moment_fed k.state.position moment)
-      → new.keeper.pending ≡ with_change k.pending (At moment) → new.keeper.store ≡ k.store → OnWay (outset k now) all (MailsToCome new left) new.keeper now seen
-  moment_made seen old new left rest is ahead same known room state pending store =
-      let later = coming None new.keeper.state mails None in record {
-        others = later;
+      → new.keeper.pending ≡ with_change k.pending (At moment) → new.keeper.store ≡ k.store → OnWay (outset k now) all (MailsToCome new left) new.keeper later seen
+  moment_made later costs seen old new left rest is ahead same known room state pending store =
+      let others = coming None new.keeper.state mails None in record {
+        others = others;
         to_come = (rest, is, ap (λ (ms : List Mail). coming None new.keeper.state ms None) (ahead ∙ ap (λ (r : Reading). mails_from (position r) (r.held ++ rest)) (sym same)));
         known = record {
           places = known.places;
           is = known.is;
-          holds = way_on (outset k now) all all k now known.places known.holds new.keeper later (record {
+          holds = way_on (outset k now) all all k now known.places known.holds new.keeper others later (record {
             fed = moment_fed k.state.position moment;
             first = ap (λ (s : State). fed_first (moment_fed k.state.position moment) (coming None s mails None)) (sym state);
             room = room;
             state = state;
             pending = pending;
-          }) store;
+          }) store costs;
         };
       }
-
--- it was made without a read of a kept card
-pub later_on : (left : Option Bytes) (seen : Option Places) (written : ℕ) (start : Outset) (feed : Feed) (f : Following) (n m : ℕ) → m ≡ n → OnWay start feed (MailsToCome f left) f.keeper (counts n written) seen
-    → OnWay start feed (MailsToCome f left) f.keeper (counts m written) seen
-later_on left seen written start feed f n m same on = subst (λ (i : ℕ). OnWay start feed (MailsToCome f left) f.keeper (counts i written) seen) (sym same) on
 
 -- ---- what is read and written
 
@@ -262,11 +267,11 @@ opening_spends g old mid reads written = record { reads = omega (arith, reads); 
 module _ (g : Given) (s : State) (stand : g.stand ≡ Ok s) (old mid : Counts) (reads : mid.reads ≤ old.reads + load_of g.stand) (written : mid.written ≡ old.written) where
   pub following_spends : (fill : Fill) (feed : Feed) (new : Counts) → unfit g s ≡ None → fill ≡ g.fill → feed ≡ changes g s → RoseWithin mid (run_spends s fill feed) new → RoseWithin old (follow_spends g) new
   following_spends fill feed new fits fill_is feed_is rose =
-      let commits : commits_if g g.stand ≡ run_spends s fill feed =
-      ap (commits_if g) stand ∙ ap (commits_from g s) fits ∙ (λ i. run_spends s (sym fill_is i) (sym feed_is i)) in
+      let spent : spent_if g g.stand ≡ run_spends s fill feed =
+      ap (spent_if g) stand ∙ ap (spent_from g s) fits ∙ (λ i. run_spends s (sym fill_is i) (sym feed_is i)) in
       record {
-        reads = sum_within old.reads (load_of g.stand) (commits_if g g.stand).reads mid.reads new.reads (run_spends s fill feed).reads (sym (ap (λ (c : Counts). c.reads) commits)) reads rose.reads;
-        written = omega (arith, rose.written, written, ap (λ (c : Counts). c.written) commits);
+        reads = sum_within old.reads (load_of g.stand) (spent_if g g.stand).reads mid.reads new.reads (run_spends s fill feed).reads (sym (ap (λ (c : Counts). c.reads) spent)) reads rose.reads;
+        written = omega (arith, rose.written, written, ap (λ (c : Counts). c.written) spent);
       }
 
 -- the own address is that of the state

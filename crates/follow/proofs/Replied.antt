@@ -234,6 +234,13 @@ not_asked answer.NoApp is = cc
 not_asked answer.Write is = cc
 not_asked answer.Memory is = cc
 
+-- a reply says that a text could not be written where the answer does
+pub not_written : (r : Result Unit Refusal) (why : AnswerFault) → r ≡ Err (answer_refusal why) → r ≡ Err refusal.Write → why ≡ answer.Write
+not_written r answer.NoChat one other = cc
+not_written r answer.NoApp one other = cc
+not_written r answer.Write one other = refl
+not_written r answer.Memory one other = cc
+
 -- ---- what is read and written
 
 -- the answer is not asked for, or may read more

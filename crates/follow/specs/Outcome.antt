@@ -222,18 +222,18 @@ LastIf None s outcomes = ⊤
 
 -- ---- what is read and written
 
--- by the commits, where the changes are followed
-abbrev pub commits_from : Given → State → Option Refusal → Counts
-commits_from g s None = run_spends s g.fill (changes g s)
-commits_from g s (Some why) = counts 0 0
+-- by the changes and the commits, where the changes are followed
+abbrev pub spent_from : Given → State → Option Refusal → Counts
+spent_from g s None = run_spends s g.fill (changes g s)
+spent_from g s (Some why) = counts 0 0
 
-abbrev pub commits_if : Given → Result State (Place × ℕ) → Counts
-commits_if g (Ok s) = commits_from g s (unfit g s)
-commits_if g (Err damage) = counts 0 0
+abbrev pub spent_if : Given → Result State (Place × ℕ) → Counts
+spent_if g (Ok s) = spent_from g s (unfit g s)
+spent_if g (Err damage) = counts 0 0
 
--- by opening and by all commits, at most
+-- by opening, by all changes and by all commits, at most
 abbrev pub follow_spends : Given → Counts
-follow_spends g = counts (load_of g.stand + (commits_if g g.stand).reads) (commits_if g g.stand).written
+follow_spends g = counts (load_of g.stand + (spent_if g g.stand).reads) (spent_if g g.stand).written
 
 -- by the answer, where all changes are made
 abbrev pub answer_reads : Question → Result Reached Refusal → ℕ

@@ -252,8 +252,9 @@ pub fn run<M: Source, S: Source, H: Shelf, C: Clock, K: Sink, L: Ledger>(
         → ¬ IfLentAnd steps_file.entry steps_file.exit (λ before after. Rose (S.faults before) (S.faults after))
         → (result ≡ Status.Ok × Appends (K.held out.old) (K.held out.new) text) ⊎ (result ≡ Status.Memory) }
 
-    // What is counted: by opening and by the commits no more kept cards are read than there are, and no more bytes are written
-    // than an image where a checkpoint falls due, and else a group; and then the answer reads what its question may.
+    // What is counted: opening and a checkpoint read no more kept cards than there are, a change no more than it may cost, and
+    // the answer what its question may; and a commit writes no more bytes than an image where a checkpoint falls due, and else
+    // a group.
     ensures cost { (found : Found) → Finds (request words.now) (is_some steps_file.entry) (M.left mbox.old) (LentTells S.left steps_file.entry) (H.seen shelf.old)
         (C.next clock.old) found
         → RoseWithin (counts steps.old (H.written shelf.old)) (cost_of (request words.now) found) (counts steps.new (H.written shelf.new)) }

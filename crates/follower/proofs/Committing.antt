@@ -15,13 +15,14 @@ use Rattle.state_store.specs.Stored.{IsStored}
 use Rattle.state_store.proofs.Appending.{is_settled}
 use Rattle.keeper.specs.Keeping.{Keeping, is_refused}
 use Rattle.keeper.specs.Pending.{PendingChanges, none_pending}
+use Rattle.touched_chats.specs.Costs.{change_cost}
 use Rattle.follower.specs.Feed.{Fed, Feed, after_fed, ends, End}
 use Rattle.follower.specs.Going.{AreMade, MakesFirst, after_feds, fed_all}
 use Rattle.follower.specs.Reached.{Reached, Stop, committed_count, committed_of, count_made, reached}
 use Rattle.follower.specs.Committing.{Ends, Halts, IsWhole, Outset, Prefix, SpendsWithin, Way, committed, outset}
-use Rattle.follower.specs.Spending.{Counts, RoseWithin, Spent, commits_of, spelled, spent_by}
+use Rattle.follower.specs.Spending.{Counts, RoseWithin, Spent, commits_of, counts, feds_cost, next_cost, spelled, spent_by, tried, with_reads}
 use Rattle.follower.proofs.Going.{after_more, all_changes, count_done, fed_more, leads_reached, made_more, made_take, same_me}
-use Rattle.follower.proofs.Spending.{last_is_made, more_commits, whole_are_made}
+use Rattle.follower.proofs.Spending.{feds_one_more, last_is_made, next_is, more_spends, tried_cost, whole_are_made}
 
 -- whole commits of 256
 whole_commits : (commits pending : ℕ) → pending < 256 → 256 * ((256 * commits + pending) / 256) ≡ 256 * commits
@@ -29,9 +30,13 @@ whole_commits commits pending few =
     let e : 256 * commits + pending ≡ commits * 256 + pending = omega arith in
     ap (λ (n : ℕ). 256 * n) (ap (λ (n : ℕ). n / 256) e ∙ div-mul-add commits 256 pending few)
 
--- what is read and written in two parts
+-- what is read or written in two parts
 pub sum_within : (a b c now later part : ℕ) → part ≡ c → now ≤ a + b → later ≤ now + part → later ≤ a + (b + c)
 sum_within a b c now later part is before after = omega (arith, is, before, after)
+
+-- and where changes came before
+sum_within_more : (a b c d now later part : ℕ) → part ≡ c → now ≤ a + (b + d) → later ≤ now + part → later ≤ a + (b + c + d)
+sum_within_more a b c d now later part is before after = omega (arith, is, before, after)
 
 -- nothing is done yet
 pub way_first : (feed : Feed) (k : Keeping) (now : Counts) (places : Places) → k.pending ≡ none_pending → stands k.state.mailbox.me places ≡ Ok k.state → Way (outset k now) feed feed k now places
@@ -74,9 +79,14 @@ module _ (start : Outset) (feed others : Feed) (k : Keeping) (now : Counts) (pla
   kept_done : 256 * way.commits ≤ length done
   kept_done = omega (arith, way.split)
 
-  -- one change more
-  pub way_on : (new : Keeping) (later : Feed) → MakesFirst k others new later → new.store ≡ k.store → Way start feed later new now places
-  way_on new later makes store = record {
+  -- the changes of the run that are done
+  abbrev cost : ℕ
+  cost = feds_cost first done
+
+  -- one change more, by reads of no more than it costs
+  pub way_on : (new : Keeping) (later : Feed) (after : Counts) → MakesFirst k others new later → new.store ≡ k.store
+      → RoseWithin now (counts (next_cost k.state others.changes) 0) after → Way start feed later new after places
+  way_on new later after makes store spends = record {
     leads = record {
       done = done ++ makes.fed ∷ [];
       first = way.leads.first ∙ ap (fed_all done) makes.first ∙ fed_more done makes.fed later;
@@ -89,7 +99,17 @@ module _ (start : Outset) (feed others : Feed) (k : Keeping) (now : Counts) (pla
     pending = ap (λ (p : PendingChanges). p.bytes) makes.pending ∙ ap (λ bytes. bytes ++ change_spelled makes.fed.change) way.pending
         ∙ sym (spelled_more (drop (256 * way.commits) done) makes.fed) ∙ ap spelled (sym (drop-append-le (256 * way.commits) done (makes.fed ∷ []) kept_done));
     fill = ap fill_of store ∙ way.fill;
-    rose = way.rose;
+    rose = record {
+      reads = omega (
+        arith,
+        way.rose.reads,
+        spends.reads,
+        next_is k.state others makes.fed later makes.first,
+        feds_one_more first done makes.fed,
+        ap (λ (s : State). change_cost s.mailbox makes.fed.change) way.leads.state,
+      );
+      written = omega (arith, way.rose.written, spends.written);
+    };
   }
 
   -- ---- a commit of all that is pending
@@ -110,14 +130,14 @@ module _ (start : Outset) (feed others : Feed) (k : Keeping) (now : Counts) (pla
 
     commit_rose : (later : Counts) → later.reads ≤ now.reads + commit_reads (fill_of k.store) (length k.pending.bytes) k.state
         → RisesUpTo (commit_writes (fill_of k.store) (length k.pending.bytes) k.state) now.written later.written
-        → RoseWithin start.counts (spent_by first start.fill feed.changes (suc way.commits)).counts later
+        → RoseWithin start.counts (with_reads cost (spent_by first start.fill feed.changes (suc way.commits)).counts) later
     commit_rose later reads writes =
         let size = length (spelled (take 256 (drop (256 * way.commits) feed.changes))) in
         let s = after_feds first (take (256 * way.commits + 256) feed.changes) in
         let reads_is : commit_reads (fill_of k.store) (length k.pending.bytes) k.state ≡ commit_reads spent.fill size s = (λ i. commit_reads (way.fill i) (size_is i) (state_is i)) in
         let writes_is : commit_writes (fill_of k.store) (length k.pending.bytes) k.state ≡ commit_writes spent.fill size s = (λ i. commit_writes (way.fill i) (size_is i) (state_is i)) in
         record {
-          reads = sum_within start.counts.reads spent.counts.reads (commit_reads spent.fill size s) now.reads later.reads _ reads_is way.rose.reads reads;
+          reads = sum_within_more start.counts.reads spent.counts.reads (commit_reads spent.fill size s) cost now.reads later.reads _ reads_is way.rose.reads reads;
           written = sum_within start.counts.written spent.counts.written (commit_writes spent.fill size s) now.written later.written _ writes_is way.rose.written writes.bound;
         }
 
@@ -140,7 +160,7 @@ module _ (start : Outset) (feed others : Feed) (k : Keeping) (now : Counts) (pla
 
   -- 256 changes are committed, and none is pending
   pub way_committed : (new : Keeping) (later : Counts) (after : Places) → k.pending.count ≡ 256 → stands k.state.mailbox.me after ≡ Ok k.state → new.state ≡ k.state → new.pending ≡ none_pending
-      → fill_of new.store ≡ fill_with (fill_of k.store) (39 + length k.pending.bytes) → RoseWithin start.counts (spent_by first start.fill feed.changes (suc way.commits)).counts later
+      → fill_of new.store ≡ fill_with (fill_of k.store) (39 + length k.pending.bytes) → RoseWithin start.counts (with_reads cost (spent_by first start.fill feed.changes (suc way.commits)).counts) later
       → Way start feed others new later after
   way_committed new later after full stood state none fill rose =
       let all : length done ≡ 256 * suc way.commits = omega (arith, way.split, full) in record {
@@ -159,16 +179,28 @@ module _ (start : Outset) (feed others : Feed) (k : Keeping) (now : Counts) (pla
   all_made : (m : ℕ) → 256 * m ≤ length done → m ≤ commits_of (committed_count first feed)
   all_made m le = whole_are_made m (count_made first feed.changes) (reached first feed).stop (omega (arith, count_is, le))
 
-  pub way_spends : SpendsWithin start feed now
-  way_spends = more_commits first start.fill feed.changes way.commits _ start.counts now (all_made way.commits kept_done) way.rose
+  -- the changes that are done, and one more
+  all_tried : cost + next_cost k.state others.changes ≤ feds_cost first (tried first feed)
+  all_tried = subst (λ (s : State). cost + next_cost s others.changes ≤ feds_cost first (tried first feed)) (sym way.leads.state)
+      (tried_cost first feed done others.changes changes_are way.leads.made)
+
+  -- of commits, where all changes are done
+  spends_in : (m n : ℕ) (later : Counts) → m ≤ n → RoseWithin start.counts (with_reads cost (spent_by first start.fill feed.changes m).counts) later
+      → RoseWithin start.counts (with_reads (feds_cost first (tried first feed)) (spent_by first start.fill feed.changes n).counts) later
+  spends_in m n later le = more_spends first start.fill feed.changes m n cost _ start.counts later le (omega (arith, all_tried))
+
+  -- a change that is not made may have been read for
+  pub way_spends : (later : Counts) → RoseWithin now (counts (next_cost k.state others.changes) 0) later → SpendsWithin start feed later
+  way_spends later more = more_spends first start.fill feed.changes way.commits _ _ _ start.counts later (all_made way.commits kept_done) all_tried
+      (record { reads = omega (arith, way.rose.reads, more.reads); written = omega (arith, way.rose.written, more.written) })
 
   pub full_rose : k.pending.count ≡ 256 → (later : Counts) → later.reads ≤ now.reads + commit_reads (fill_of k.store) (length k.pending.bytes) k.state
       → RisesUpTo (commit_writes (fill_of k.store) (length k.pending.bytes) k.state) now.written later.written
-      → RoseWithin start.counts (spent_by first start.fill feed.changes (suc way.commits)).counts later
+      → RoseWithin start.counts (with_reads cost (spent_by first start.fill feed.changes (suc way.commits)).counts) later
   full_rose full = commit_rose (all_of_256 full)
 
-  pub full_spends : k.pending.count ≡ 256 → (later : Counts) → RoseWithin start.counts (spent_by first start.fill feed.changes (suc way.commits)).counts later → SpendsWithin start feed later
-  full_spends full later rose = more_commits first start.fill feed.changes (suc way.commits) _ start.counts later (all_made (suc way.commits) (omega (arith, way.split, full))) rose
+  pub full_spends : k.pending.count ≡ 256 → (later : Counts) → RoseWithin start.counts (with_reads cost (spent_by first start.fill feed.changes (suc way.commits)).counts) later → SpendsWithin start feed later
+  full_spends full later = spends_in (suc way.commits) _ later (all_made (suc way.commits) (omega (arith, way.split, full)))
 
   -- the last commit, of what is left
   pub last_spends : others ≡ ends End → k.pending.count ≤ 256 → 1 ≤ k.pending.count → (later : Counts) → later.reads ≤ now.reads + commit_reads (fill_of k.store) (length k.pending.bytes) k.state
@@ -178,7 +210,7 @@ module _ (start : Outset) (feed others : Feed) (k : Keeping) (now : Counts) (pla
       let all : committed_count first feed ≡ 256 * way.commits + k.pending.count =
       ap (λ (r : Reached). committed_of r.stop (count_made first feed.changes)) (leads_reached first k.state feed others way.leads ∙ ap (reached k.state) last) ∙ count in
       let total : suc way.commits ≤ commits_of (committed_count first feed) = subst (λ (n : ℕ). suc way.commits ≤ commits_of n) (sym all) (last_is_made way.commits k.pending.count some) in
-      more_commits first start.fill feed.changes (suc way.commits) _ start.counts later total (commit_rose (all_of_last last few) later reads writes)
+      spends_in (suc way.commits) _ later total (commit_rose (all_of_last last few) later reads writes)
 
   -- ---- what a crash leaves
 

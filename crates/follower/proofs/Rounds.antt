@@ -21,11 +21,13 @@ use Rattle.follower.specs.declared.fault.RunFault.TheVariants as fault
 use Rattle.follower.specs.declared.follower.Turned.{Turned}
 use Rattle.follower.specs.declared.follower.Turned.TheVariants as turned
 use Rattle.follower.specs.Feed.{Fed, Feed, End, after_fed, ends, fed_first, last_fed, moment_fed}
-use Rattle.follower.specs.Following.{Following, TurnAdds, TurnGoes, to_come}
+use Rattle.follower.specs.Following.{Following, TurnAdds, TurnCosts, TurnGoes, to_come}
 use Rattle.follower.specs.Going.{RefusesFirst, StopsAt}
 use Rattle.follower.specs.Reached.{BadStep, Full, count_made, reached}
 use Rattle.follower.specs.Committing.{CommitGoes, EndGoes, HaltsAt, IsWhole, LastGoes, LastToCome, LinesToCome, MailsToCome, NothingToCome, OnWay, Outset, Prefix, RoundGoes, SpendsWithin, Stops, Way}
-use Rattle.follower.specs.Spending.{Counts}
+use Rattle.follower.specs.Spending.{Counts, RoseWithin, counts, next_cost}
+use Rattle.touched_chats.specs.Costs.{change_cost}
+use Rattle.follower.proofs.Spending.{next_is, stays_within}
 use Rattle.follower.proofs.Committing.{ends_all, full_rose, full_spends, halts, last_spends, prefix_commit, prefix_kept, way_committed, way_on, way_spends, whole_of_256, whole_of_all}
 
 -- ---- what a turn says, where the bytes are known
@@ -53,6 +55,27 @@ line_turn (Some b) (Some a) (Some s) (Some t) last old new r others go (bytes, l
     let alike : s ≡ lines = cc in
     let here : to_come last old b (Some s) ≡ others = (λ i. to_come last old (same i) (Some (alike i))) ∙ sym ahead in
     (to_come last new a (Some t), (a, t, refl, refl, refl), subst (λ (f : Feed). TurnGoes last r old f new (to_come last new a (Some t))) here go)
+
+-- what it reads
+pub mail_costs : (l m : Option Bytes) (old : Following) (r : Result Turned RunFault) (from to : ℕ) (others : Feed)
+    → IfKnown l m (λ before _. TurnCosts r old.keeper.state (to_come None old before None) from to) → MailsToCome old l others → TurnCosts r old.keeper.state others from to
+mail_costs None m old r from to others costs (bytes, is, ahead) = absurd cc
+mail_costs (Some b) None old r from to others costs (bytes, is, ahead) = absurd costs
+mail_costs (Some b) (Some a) old r from to others costs (bytes, is, ahead) =
+    let same : b ≡ bytes = cc in
+    subst (λ (f : Feed). TurnCosts r old.keeper.state f from to) (ap (λ (x : Bytes). to_come None old x None) same ∙ sym ahead) costs
+
+pub line_costs : (l m j k : Option Bytes) (last : Option ℕ) (old : Following) (r : Result Turned RunFault) (from to : ℕ) (others : Feed)
+    → IfKnown l m (λ mails_before _. IfKnown j k (λ before _. TurnCosts r old.keeper.state (to_come last old mails_before (Some before)) from to))
+    → LinesToCome last old l j others → TurnCosts r old.keeper.state others from to
+line_costs None m j k last old r from to others costs (bytes, lines, is, are, ahead) = absurd cc
+line_costs (Some b) None j k last old r from to others costs (bytes, lines, is, are, ahead) = absurd costs
+line_costs (Some b) (Some a) None k last old r from to others costs (bytes, lines, is, are, ahead) = absurd cc
+line_costs (Some b) (Some a) (Some s) None last old r from to others costs (bytes, lines, is, are, ahead) = absurd costs
+line_costs (Some b) (Some a) (Some s) (Some t) last old r from to others costs (bytes, lines, is, are, ahead) =
+    let same : b ≡ bytes = cc in
+    let alike : s ≡ lines = cc in
+    subst (λ (f : Feed). TurnCosts r old.keeper.state f from to) ((λ i. to_come last old (same i) (Some (alike i))) ∙ sym ahead) costs
 
 -- the same where readers and state are the same
 pub mails_same : (l : Option Bytes) (old new : Following) (others : Feed) → new.keeper.state ≡ old.keeper.state → new.mbox ≡ old.mbox → MailsToCome old l others → MailsToCome new l others
@@ -94,26 +117,32 @@ module _ (start : Outset) (feed : Feed) (now : Counts) (outcomes : Places → Ty
   halts_at others k known few stored (fault.OtherMe other) stops = tt
   halts_at others k known few stored fault.Memory stops = tt
 
-  pub stops_at : (others : Feed) (k : Keeping) → IsKnown seen (Way start feed others k now) → k.pending.count < 256 → WhereKnown seen (IsStored k.store outcomes)
-      → (why : RunFault) → StopsAt why k.state others → Stops why start feed now outcomes
-  stops_at others k known few stored why stops =
-      record { halts = halts_at others k known few stored why stops; spends = way_spends start feed others k now known.places known.holds }
+  pub stops_at : (others : Feed) (k : Keeping) (later : Counts) → IsKnown seen (Way start feed others k now) → k.pending.count < 256 → WhereKnown seen (IsStored k.store outcomes)
+      → (why : RunFault) → StopsAt why k.state others → RoseWithin now (counts (next_cost k.state others.changes) 0) later → Stops why start feed later outcomes
+  stops_at others k later known few stored why stops costs =
+      record { halts = halts_at others k known few stored why stops; spends = way_spends start feed others k now known.places known.holds later costs }
 
   -- of the turn after a commit that may have been due
-  pub round_goes : (last : Option ℕ) (IsToCome : Feed → Type 0) (old new : Following) (others later : Feed) (r : Result Turned RunFault) → IsKnown seen (Way start feed others old.keeper now)
-      → IsToCome later → TurnGoes last r old others new later → IfOk r (TurnAdds old.keeper new.keeper) → new.keeper.store ≡ old.keeper.store → old.keeper.pending.count < 256
-      → WhereKnown seen (IsStored old.keeper.store outcomes) → RoundGoes last r start feed IsToCome new.keeper now seen outcomes
-  round_goes last IsToCome old new others later (Ok turned.Applied) known comes go adds store few stored = record {
+  pub round_goes : (last : Option ℕ) (IsToCome : Feed → Type 0) (old new : Following) (others later : Feed) (r : Result Turned RunFault) (to : ℕ) → IsKnown seen (Way start feed others old.keeper now)
+      → IsToCome later → TurnGoes last r old others new later → TurnCosts r old.keeper.state others now.reads to → IfOk r (TurnAdds old.keeper new.keeper) → new.keeper.store ≡ old.keeper.store
+      → old.keeper.pending.count < 256 → WhereKnown seen (IsStored old.keeper.store outcomes) → RoundGoes last r start feed IsToCome new.keeper (counts to now.written) seen outcomes
+  round_goes last IsToCome old new others later (Ok turned.Applied) to known comes go costs adds store few stored = record {
     others = later;
     to_come = comes;
-    known = record { places = known.places; is = known.is; holds = way_on start feed others old.keeper now known.places known.holds new.keeper later go store };
+    known = record {
+      places = known.places;
+      is = known.is;
+      holds = way_on start feed others old.keeper now known.places known.holds new.keeper later (counts to now.written) go store (record { reads = costs; written = omega arith });
+    };
   }
-  round_goes last IsToCome old new others later (Ok turned.End) known comes go adds store few stored = record {
+  round_goes last IsToCome old new others later (Ok turned.End) to known comes go costs adds store few stored = record {
     others = others;
     to_come = go.0 ∙ ap (λ (s : State). last_fed last s.position) (sym go.1);
-    known = subst (λ (k : Keeping). IsKnown seen (Way start feed others k now)) (sym adds) known;
+    known = subst (λ (k : Keeping). IsKnown seen (Way start feed others k (counts to now.written))) (sym adds)
+        (subst (λ (n : ℕ). IsKnown seen (Way start feed others old.keeper (counts n now.written))) (sym costs) known);
   }
-  round_goes last IsToCome old new others later (Err why) known comes go adds store few stored = stops_at others old.keeper known few stored why go
+  round_goes last IsToCome old new others later (Err why) to known comes go costs adds store few stored =
+      stops_at others old.keeper (counts to now.written) known few stored why go (record { reads = costs; written = omega arith })
 
   pub free_stop : (why : RunFault) → (why ≡ fault.Disk) ⊎ (why ≡ fault.Memory) → SpendsWithin start feed now → Stops why start feed now outcomes
   free_stop why (inl disk) spends = subst (λ (e : RunFault). Stops e start feed now outcomes) (sym disk) (record { halts = tt; spends = spends })
@@ -188,7 +217,7 @@ module _ {D : Type 0} (moment : D → ℕ) (left_since : D → ℕ → Places �
       all_spends last few none = by k.pending.count refl
         where
           by : (n : ℕ) → k.pending.count ≡ n → SpendsWithin start feed later
-          by zero is = subst (SpendsWithin start feed) (sym (none is)) (way_spends start feed others k now known.places known.holds)
+          by zero is = subst (SpendsWithin start feed) (sym (none is)) (way_spends start feed others k now known.places known.holds now (stays_within now _))
           by (suc n) is = last_spends start feed others k now known.places known.holds last few (omega (arith, is)) later reads writes
 
       pub end_goes : (r : Result Unit RunFault) (after : Keeping) → others ≡ ends End → k.pending.count ≤ 256 → (k.pending.count ≡ 0 → later ≡ now)
@@ -207,24 +236,31 @@ module _ (start : Outset) (feed : Feed) (now : Counts) (outcomes : Places → Ty
   no_last last k none on = record { others = on.others; to_come = on.to_come ∙ ap (λ (o : Option ℕ). last_fed o k.state.position) none; known = on.known }
 
   -- it is made, or the count has no room for it
-  pub last_goes : (moment : ℕ) (others : Feed) (k new : Keeping) (r : Result Unit RunFault) → others ≡ last_fed (Some moment) k.state.position → IsKnown seen (Way start feed others k now)
-      → k.pending.count < 256 → WhereKnown seen (IsStored k.store outcomes) → OnOk r (is_refused k.state (At moment) ≡ false) → OnOk r (new.state ≡ after_fed k.state (moment_fed k.state.position moment))
-      → OnOk r (new.pending ≡ with_change k.pending (At moment)) → new.store ≡ k.store → (IsErrOf r fault.Full → is_refused k.state (At moment) ≡ true) → IfErr r (λ why. (why ≡ fault.Full) ⊎ (why ≡ fault.Memory))
-      → LastGoes r start feed new now seen outcomes
-  last_goes moment others k new (Ok t) is known few stored room state pending store full cause = record {
-    others = ends End;
-    to_come = refl;
-    known = record {
-      places = known.places;
-      is = known.is;
-      holds = way_on start feed others k now known.places known.holds new (ends End)
-          (record { fed = moment_fed k.state.position moment; first = is; room = room; state = state; pending = pending }) store;
-    };
-  }
-  last_goes moment others k new (Err why) is known few stored room state pending store full cause = by cause
-    where
-      by : (why ≡ fault.Full) ⊎ (why ≡ fault.Memory) → Stops why start feed now outcomes
-      by (inl is_full) = subst (λ (e : RunFault). Stops e start feed now outcomes) (sym is_full)
-          (stops_at start feed now outcomes seen others k known few stored fault.Full
-          (record { fed = moment_fed k.state.position moment; others = ends End; first = is; refused = full (ap Err is_full) }))
-      by (inr memory) = free_stop start feed now outcomes seen why (inr memory) (way_spends start feed others k now known.places known.holds)
+  module _ (moment : ℕ) (others : Feed) (k new : Keeping) (is : others ≡ last_fed (Some moment) k.state.position) (known : IsKnown seen (Way start feed others k now))
+      (few : k.pending.count < 256) (stored : WhereKnown seen (IsStored k.store outcomes)) (to : ℕ) (cost : to ≤ now.reads + change_cost k.state.mailbox (At moment)) where
+    abbrev after : Counts
+    after = counts to now.written
+
+    costs : RoseWithin now (counts (next_cost k.state others.changes) 0) after
+    costs = record { reads = omega (arith, cost, next_is k.state others (moment_fed k.state.position moment) (ends End) is); written = omega arith }
+
+    pub last_goes : (r : Result Unit RunFault) → OnOk r (is_refused k.state (At moment) ≡ false) → OnOk r (new.state ≡ after_fed k.state (moment_fed k.state.position moment))
+        → OnOk r (new.pending ≡ with_change k.pending (At moment)) → new.store ≡ k.store → (IsErrOf r fault.Full → is_refused k.state (At moment) ≡ true) → IfErr r (λ why. (why ≡ fault.Full) ⊎ (why ≡ fault.Memory))
+        → LastGoes r start feed new after seen outcomes
+    last_goes (Ok t) room state pending store full cause = record {
+      others = ends End;
+      to_come = refl;
+      known = record {
+        places = known.places;
+        is = known.is;
+        holds = way_on start feed others k now known.places known.holds new (ends End) after
+            (record { fed = moment_fed k.state.position moment; first = is; room = room; state = state; pending = pending }) store costs;
+      };
+    }
+    last_goes (Err why) room state pending store full cause = by cause
+      where
+        by : (why ≡ fault.Full) ⊎ (why ≡ fault.Memory) → Stops why start feed after outcomes
+        by (inl is_full) = subst (λ (e : RunFault). Stops e start feed after outcomes) (sym is_full)
+            (stops_at start feed now outcomes seen others k after known few stored fault.Full
+            (record { fed = moment_fed k.state.position moment; others = ends End; first = is; refused = full (ap Err is_full) }) costs)
+        by (inr memory) = free_stop start feed after outcomes seen why (inr memory) (way_spends start feed others k now known.places known.holds after costs)

@@ -1,5 +1,5 @@
 -- A turn makes the next change of the files, and the others are to come after it.
-use Rattle.std.proofs.Common.{◌≡◌, ◌+◌, ℕ, Bool, true, false, List, [], ◌∷◌, ◌++◌, length, Option, Some, None, Result, Ok, Err, ◌≤◌, ◌<◌, ◌⊎◌, inl, inr, refl, sym, ap, subst, ◌∙◌, if◌then◌else◌, nat_lt}
+use Rattle.std.proofs.Common.{◌≡◌, ◌+◌, ℕ, Bool, true, false, List, [], ◌∷◌, ◌++◌, length, Option, Some, None, Result, Ok, Err, ◌≤◌, ◌<◌, ◌⊎◌, inl, inr, refl, sym, ap, subst, ◌∙◌, if◌then◌else◌, nat_lt, arith}
 use Rattle.std.proofs.lemmas.Bool.{le-ltb, lt-ltb}
 use Rattle.kit.specs.Lines.{content}
 use Rattle.mboxrd.specs.Answers.{IsNext, max_mail_len}
@@ -29,13 +29,16 @@ use Rattle.follower.specs.declared.fault.RunFault.TheVariants as fault
 use Rattle.state_image.specs.declared.position.Position.{Position}
 use Rattle.follower.specs.Arrivals.{arrival_of, arrival_taken, arrival_with}
 use Rattle.state_store.specs.States.{State}
-use Rattle.keeper.specs.Keeping.{Keeping, is_refused}
+use Rattle.touched_chats.specs.Costs.{change_cost}
+use Rattle.keeper.specs.Keeping.{Keeping, after_change, is_refused}
 use Rattle.keeper.specs.Pending.{with_change}
 use Rattle.keeper.specs.declared.fault.KeepFault.{KeepFault}
 use Rattle.keeper.specs.declared.fault.KeepFault.TheVariants as of_keeper
 use Rattle.follower.specs.Feed.{Fed, Feed, after_fed, at_line, at_mail, counted, fed_first, line_fed, lines_fed, mail_fed, mails_fed}
 use Rattle.follower.specs.Following.{ArrivesNext, Following, IsKeepFault, Makes, keep_fault, to_come, lines_ahead, mails_ahead}
 use Rattle.follower.specs.Going.{MakesFirst, RefusesFirst, StopsAt}
+use Rattle.follower.specs.Spending.{next_cost}
+use Rattle.follower.proofs.Spending.{next_is}
 
 -- ---- one change
 
@@ -65,6 +68,27 @@ module _ (k n : Keeping) (change : Change) (q : Position) (f : Fed) (is : ◌≡
 
 refuses_first : (s : State) (change : Change) (f : Fed) → change ≡ f.change → (rest : Feed) → is_refused s change ≡ true → RefusesFirst s (fed_first f rest)
 refuses_first s change f is rest refused = record { fed = f; others = rest; first = refl; refused = ap (is_refused s) (sym is) ∙ refused }
+
+-- what the change costs
+first_costs : (s : State) (change : Change) (f : Fed) (rest : Feed) → change ≡ f.change → change_cost s.mailbox change ≡ next_cost s (fed_first f rest).changes
+first_costs s change f rest is = ap (change_cost s.mailbox) is ∙ sym (next_is s (fed_first f rest) f rest refl)
+
+-- whatever the files tell
+pub made_reads : (old mid new : Keeping) (change : Change) (q : Position) (from to : ℕ) → mid ≡ old → new.state ≡ after_change mid.state change q → to ≤ from + change_cost mid.state.mailbox change
+    → (made : Change) × (new.state.mailbox ≡ after old.state.mailbox made) × (to ≤ from + change_cost old.state.mailbox made)
+made_reads old mid new change q from to same state cost = (
+  change,
+  ap (λ (s : State). s.mailbox) state ∙ ap (λ (k : Keeping). after k.state.mailbox change) same,
+  subst (λ (k : Keeping). to ≤ from + change_cost k.state.mailbox change) same cost,
+)
+
+pub tried_reads : (old mid : Keeping) (change : Change) (from to : ℕ) → mid ≡ old → to ≤ from + change_cost mid.state.mailbox change
+    → (tried : Change) × (to ≤ from + change_cost old.state.mailbox tried)
+tried_reads old mid change from to same cost = (change, subst (λ (k : Keeping). to ≤ from + change_cost k.state.mailbox change) same cost)
+
+-- where nothing is read, any change will do
+pub none_reads : (m : Mailbox) (old : ℕ) → (tried : Change) × (old ≤ old + change_cost m tried)
+none_reads m old = (At 0, omega arith)
 
 -- ---- a mail
 
@@ -141,6 +165,22 @@ step_full last s raw lines (step.At n) mails others change q m full =
     let p = counted (at_line s.position raw) in
     refuses_first s change (record { change = At n; position = p }) (ap (λ x. x.0) m.0) (later last lines s.mailbox.next_uid p mails) full
 
+step_costs : (last : Option ℕ) (s : State) (raw : List ℕ) (lines : List (List ℕ)) (st : Step) (mails others : List Mail) (change : Change) (p q : Position)
+    → Makes st s.mailbox.next_uid p mails (change, q) others → change_cost s.mailbox change ≡ next_cost s (line_fed (Some st) s.mailbox.next_uid s.position raw mails (later last lines)).changes
+step_costs last s raw lines step.Next [] others change p q m = absurd m
+step_costs last s raw lines step.Next (mail ∷ mails) others change p q m =
+    let f = mail_fed s.mailbox.next_uid (at_line s.position raw) mail in
+    first_costs s change f (later last lines (s.mailbox.next_uid + 1) f.position mails) (ap (λ x. x.0) m.0)
+step_costs last s raw lines (step.Expunge n) mails others change p q m =
+    let at = counted (at_line s.position raw) in
+    first_costs s change (record { change = Expunge n; position = at }) (later last lines s.mailbox.next_uid at mails) (ap (λ x. x.0) m.0)
+step_costs last s raw lines (step.Seen n) mails others change p q m =
+    let at = counted (at_line s.position raw) in
+    first_costs s change (record { change = Seen n; position = at }) (later last lines s.mailbox.next_uid at mails) (ap (λ x. x.0) m.0)
+step_costs last s raw lines (step.At n) mails others change p q m =
+    let at = counted (at_line s.position raw) in
+    first_costs s change (record { change = At n; position = at }) (later last lines s.mailbox.next_uid at mails) (ap (λ x. x.0) m.0)
+
 -- the lines, of which the first is what it is
 abbrev by_step : Option ℕ → State → List ℕ → List (List ℕ) → List Mail → Option Step → Feed
 by_step last s raw lines mails o = line_fed o s.mailbox.next_uid s.position raw mails (later last lines)
@@ -159,6 +199,12 @@ line_full : (last : Option ℕ) (s : State) (raw : List ℕ) (lines : List (List
 line_full last s raw lines st mails others change p q is place m full =
     subst (λ o. RefusesFirst s (by_step last s raw lines mails o)) (sym is)
     (step_full last s raw lines st mails others change q (subst (λ p. Makes st s.mailbox.next_uid p mails (change, q) others) place m) full)
+
+line_first : (last : Option ℕ) (s : State) (raw : List ℕ) (lines : List (List ℕ)) (st : Step) (mails others : List Mail) (change : Change) (p q : Position)
+    → step_of (content raw) ≡ Some st → Makes st s.mailbox.next_uid p mails (change, q) others
+    → change_cost s.mailbox change ≡ next_cost s (lines_fed last s.mailbox.next_uid s.position mails (raw ∷ lines)).changes
+line_first last s raw lines st mails others change p q is m =
+    subst (λ o. change_cost s.mailbox change ≡ next_cost s (by_step last s raw lines mails o).changes) (sym is) (step_costs last s raw lines st mails others change p q m)
 
 -- ---- the reader's answer
 
@@ -265,6 +311,18 @@ module _ (l m : Option (List ℕ)) (old mid : Following) (o : Option Change) (ch
       by (mail ∷ mails) others h = mail_full old.keeper.state mail mails change h.0 (ap (λ s. is_refused s change) (sym same_state) ∙ refused full)
   mail_stops why (inr memory) refused = arrived _ (λ before after h. subst (λ why. StopsAt why old.keeper.state (to_come None old before None)) (sym memory) tt)
 
+  pub mail_reads : (from to : ℕ) → to ≤ from + change_cost mid.keeper.state.mailbox change → IfKnown l m (λ before _. to ≤ from + next_cost old.keeper.state (to_come None old before None).changes)
+  mail_reads from to cost = arrived _ (λ before after h. by (mails_ahead old before) (mails_ahead mid after) h)
+    where
+      by : (mails others : List Mail) → ArrivesNext old mails (Some change) mid others
+          → to ≤ from + next_cost old.keeper.state (mails_fed old.keeper.state.mailbox.next_uid old.keeper.state.position mails).changes
+      by [] others h = absurd h
+      by (mail ∷ mails) others h =
+          let s = old.keeper.state in
+          let f = mail_fed s.mailbox.next_uid s.position mail in
+          subst (λ (n : ℕ). to ≤ from + n) (ap (λ (t : State). change_cost t.mailbox change) same_state
+          ∙ first_costs s change f (mails_fed (s.mailbox.next_uid + 1) f.position mails) h.0) cost
+
 -- the same of a turn of a line
 module _ (l m k n : Option (List ℕ)) (old here mid : Following) (a : TakenLine) (st : Step) (p : Position) (made : Change × Position)
     (lines : here ≡ record old { lines = here.lines }) (rest : mid ≡ record here { mbox = mid.mbox }) (stands : old.keeper.state.position.steps ≡ old.lines.place)
@@ -330,6 +388,17 @@ module _ (l m k n : Option (List ℕ)) (old here mid : Following) (a : TakenLine
       by before after mails_before mails_after h (raw ∷ ls) g =
           line_full last old.keeper.state raw ls st (mails_ahead old mails_before) (mails_ahead mid mails_after) made.0 p made.1
           g.0 (at_raw raw g.1) h (ap (λ s. is_refused s made.0) (sym mid_state) ∙ refused full)
+
+  pub line_reads : (last : Option ℕ) (from to : ℕ) → to ≤ from + change_cost mid.keeper.state.mailbox made.0
+      → IfKnown l m (λ mails_before _. IfKnown k n (λ before _. to ≤ from + next_cost old.keeper.state (to_come last old mails_before (Some before)).changes))
+  line_reads last from to cost = stepped _ (λ mails_before mails_after before after h g. by before after mails_before mails_after h (lines_ahead old before) g)
+    where
+      by : (before after mails_before mails_after : List ℕ) → Makes st old.keeper.state.mailbox.next_uid p (mails_ahead old mails_before) made (mails_ahead mid mails_after)
+          → (ls : List (List ℕ)) → IsNextLine ls (taken_line.Step st) old.lines here.lines (lines_ahead here after)
+          → to ≤ from + next_cost old.keeper.state (lines_fed last old.keeper.state.mailbox.next_uid old.keeper.state.position (mails_ahead old mails_before) ls).changes
+      by before after mails_before mails_after h [] g = absurd g
+      by before after mails_before mails_after h (raw ∷ ls) g = subst (λ (n : ℕ). to ≤ from + n) (ap (λ (t : State). change_cost t.mailbox made.0) mid_state
+          ∙ line_first last old.keeper.state raw ls st (mails_ahead old mails_before) (mails_ahead mid mails_after) made.0 p made.1 g.0 h) cost
 
 -- ---- what a keeper refuses
 

@@ -15,7 +15,7 @@ use Rattle.follower.specs.Feed.{Feed, ends, End, last_fed}
 use Rattle.follower.specs.Following.{Following, to_come}
 use Rattle.follower.specs.Going.{AreMade, Leads, after_feds}
 use Rattle.follower.specs.Reached.{Stop, Full, BadStep, committed_count, reached}
-use Rattle.follower.specs.Spending.{Counts, RoseWithin, run_spends, spelled, spent_by}
+use Rattle.follower.specs.Spending.{Counts, RoseWithin, feds_cost, run_spends, spelled, spent_by, with_reads}
 
 -- ---- what is committed
 
@@ -59,7 +59,7 @@ pub record Way (start : Outset) (feed others : Feed) (k : Keeping) (now : Counts
   pub is : stands start.state.mailbox.me places ≡ Ok (after_feds start.state (take (256 * commits) leads.done))
   pub pending : k.pending.bytes ≡ spelled (drop (256 * commits) leads.done)
   pub fill : fill_of k.store ≡ (spent_by start.state start.fill feed.changes commits).fill
-  pub rose : RoseWithin start.counts (spent_by start.state start.fill feed.changes commits).counts now
+  pub rose : RoseWithin start.counts (with_reads (feds_cost start.state leads.done) (spent_by start.state start.fill feed.changes commits).counts) now
 
 -- the same over a shelf whose contents are known
 pub record OnWay (start : Outset) (feed : Feed) (IsToCome : Feed → Type 0) (k : Keeping) (now : Counts) (seen : Option Places) : Type 0 where
@@ -84,7 +84,7 @@ NothingToCome feed = feed ≡ ends End
 
 -- ---- where a run comes to an end, or to none
 
--- no more is counted than all commits of the run read and write
+-- no more is counted than all changes and commits of the run read and write
 abbrev pub SpendsWithin : Outset → Feed → Counts → Type 0
 SpendsWithin start feed now = RoseWithin start.counts (run_spends start.state start.fill feed) now
 

@@ -14,18 +14,22 @@ use Rattle.steps_file.specs.declared.step.Step.TheVariants as step
 use Rattle.mailbox_model.specs.declared.change.Change.{Change}
 use Rattle.mailbox_model.specs.declared.change.Change.TheVariants.{Expunge, Seen, At}
 use Rattle.mailbox_model.specs.Lists.{Bytes}
+use Rattle.mailbox_model.specs.Mailbox.{Mailbox, after}
+use Rattle.touched_chats.specs.Costs.{change_cost}
 use Rattle.follower.specs.declared.fault.Input.TheVariants.{Mbox, Steps}
 use Rattle.follower.specs.declared.fault.RunFault.{RunFault}
 use Rattle.follower.specs.declared.fault.RunFault.TheVariants as fault
 use Rattle.follower.specs.declared.follower.Turned.{Turned}
 use Rattle.follower.specs.declared.follower.Turned.TheVariants as turned
 use Rattle.state_image.specs.declared.position.Position.{Position}
+use Rattle.state_store.specs.States.{State}
 use Rattle.keeper.specs.Keeping.{Keeping, max_changes}
 use Rattle.keeper.specs.declared.fault.KeepFault.{KeepFault}
 use Rattle.keeper.specs.declared.fault.KeepFault.TheVariants as of_keeper
 use Rattle.follower.specs.Arrivals.{arrival_of}
 use Rattle.follower.specs.Feed.{Feed, at_mail, coming, last_fed}
 use Rattle.follower.specs.Going.{MakesFirst, StopsAt}
+use Rattle.follower.specs.Spending.{next_cost}
 
 -- the mailbox with its kept state, the two readers of its files, and whether a call has failed
 pub record Following : Type 0 where
@@ -112,6 +116,17 @@ TurnGoes last (Ok turned.Applied) old before new after = MakesFirst old.keeper b
 TurnGoes last (Ok turned.End) old before new after =
     (before ≡ last_fed last old.keeper.state.position) × (new.keeper.state ≡ old.keeper.state)
 TurnGoes last (Err why) old before new after = StopsAt why old.keeper.state before
+
+-- Whatever the files tell, no more is read than some change costs, which is the one that is made, where one is.
+abbrev pub ReadsForOne : Result Turned RunFault → Mailbox → Mailbox → ℕ → ℕ → Type 0
+ReadsForOne (Ok turned.Applied) m n old new = (change : Change) × (n ≡ after m change) × (new ≤ old + change_cost m change)
+ReadsForOne (Ok turned.End) m n old new = new ≡ old
+ReadsForOne (Err why) m n old new = (change : Change) × (new ≤ old + change_cost m change)
+
+-- A turn reads kept cards no more often than the next of these changes may cost, and at the end not at all.
+abbrev pub TurnCosts : Result Turned RunFault → State → Feed → ℕ → ℕ → Type 0
+TurnCosts (Ok turned.End) s before old new = new ≡ old
+TurnCosts _ s before old new = new ≤ old + next_cost s before.changes
 
 -- Why a call is refused, beside what the files and the kept state say: a fault of a device that rose, or the budget of an
 -- input that was taken.

@@ -1,11 +1,14 @@
--- What the commits of a run read and write, at most.
-use Rattle.std.specs.Prelude.{◌≤◌, ℕ, zero, suc, ◌+◌, ◌*◌, ◌/◌, List, length, take, drop, flat_map}
+-- What the changes and the commits of a run read and write, at most.
+use Rattle.std.specs.Prelude.{◌≤◌, ℕ, zero, suc, ◌+◌, ◌*◌, ◌/◌, List, [], ◌∷◌, length, map, take, drop, flat_map}
+use Rattle.mailbox_model.specs.declared.change.Change.{Change}
+use Rattle.mailbox_model.specs.Mailbox.{Mailbox, after}
 use Rattle.state_image.specs.Changes.{change_spelled}
 use Rattle.state_store.specs.Commits.{Fill, commit_reads, commit_writes, fill_with}
 use Rattle.state_store.specs.States.{State}
+use Rattle.touched_chats.specs.Costs.{change_cost}
 use Rattle.follower.specs.Feed.{Fed, Feed}
 use Rattle.follower.specs.Going.{after_feds}
-use Rattle.follower.specs.Reached.{committed_count}
+use Rattle.follower.specs.Reached.{committed_count, count_made}
 
 -- what is counted: the reads of kept cards, and the bytes that are written
 pub record Counts : Type 0 where
@@ -19,6 +22,27 @@ counts reads written = record { reads = reads; written = written }
 pub record RoseWithin (old most new : Counts) : Type 0 where
   pub reads : new.reads ≤ old.reads + most.reads
   pub written : new.written ≤ old.written + most.written
+
+-- ---- what changes read
+
+-- what changes cost that are made one after the other
+abbrev pub change_costs : Mailbox → List Change → ℕ
+change_costs m [] = 0
+change_costs m (change ∷ changes) = change_cost m change + change_costs (after m change) changes
+
+-- the same of changes of a feed
+abbrev pub feds_cost : State → List Fed → ℕ
+feds_cost s fs = change_costs s.mailbox (map (λ f. f.change) fs)
+
+-- what the first of these changes costs, where there is one
+abbrev pub next_cost : State → List Fed → ℕ
+next_cost s fs = feds_cost s (take 1 fs)
+
+-- the changes of a run that are made, and after them the one that is refused, where one is
+abbrev pub tried : State → Feed → List Fed
+tried start feed = take (count_made start feed.changes + 1) feed.changes
+
+-- ---- what commits read and write
 
 -- how full the store is after commits, and what they counted at most
 pub record Spent : Type 0 where
@@ -46,6 +70,12 @@ spent_by start fill changes (suc n) =
 abbrev pub commits_of : ℕ → ℕ
 commits_of count = (count + 255) / 256
 
--- all commits of a run
+-- ---- what a run reads and writes
+
+-- these counts, and so many reads more
+abbrev pub with_reads : ℕ → Counts → Counts
+with_reads reads c = counts (c.reads + reads) c.written
+
+-- by all its changes and commits
 abbrev pub run_spends : State → Fill → Feed → Counts
-run_spends start fill feed = (spent_by start fill feed.changes (commits_of (committed_count start feed))).counts
+run_spends start fill feed = with_reads (feds_cost start (tried start feed)) (spent_by start fill feed.changes (commits_of (committed_count start feed))).counts

@@ -1,7 +1,7 @@
 //! The follower of a mailbox: it makes the changes of its files one after the other, and commits them.
 ghost use Rattle.std.specs.Prelude.{◌≡◌, ◌≤◌, ◌+◌, ◌^◌, ◌⊎◌, ◌<◌, ◌≢◌, ℕ, List, [], length, Option, Some, None, Ok, false, true, IfOk, IfErr, IfSome, IsErrOf, OnOk, OnErr, is_err};
 ghost use Rattle.kit.specs.Moments.{last_moment};
-ghost use Rattle.engine.specs.Costs.{load};
+ghost use Rattle.indexes.specs.Costs.{load};
 ghost use Rattle.mailbox_model.specs.Mailbox.{IsValidChange};
 ghost use Rattle.mboxrd.specs.Reading as mbox_reading;
 ghost use Rattle.outside.specs.Causes.{Rose};
@@ -13,11 +13,12 @@ ghost use Rattle.state_store.specs.Commits.{OldOrNew, commit_reads, commit_write
 ghost use Rattle.state_store.specs.Stands.{stands};
 ghost use Rattle.state_store.specs.Stored.{IsStored, SameFound, fill_in};
 ghost use Rattle.steps_file.specs.Reading as steps_reading;
+ghost use Rattle.touched_chats.specs.Costs.{change_cost};
 ghost use Rattle.keeper.specs.Keeping.{IsKept, IsWithin, is_refused};
 ghost use Rattle.keeper.specs.Opening.{AllFindSame, load_of};
 ghost use Rattle.keeper.specs.Pending.{none_pending, with_change};
 ghost use Rattle.follower.specs.Feed.{after_fed, moment_fed};
-ghost use Rattle.follower.specs.Following.{Adds, ArrivesNext, IsCause, IsKeepFault, IsTurnFault, LacksMail, Makes, MakesMoment, TurnAdds, TurnGoes, to_come, mails_ahead};
+ghost use Rattle.follower.specs.Following.{Adds, ArrivesNext, IsCause, IsKeepFault, IsTurnFault, LacksMail, Makes, MakesMoment, ReadsForOne, TurnAdds, TurnCosts, TurnGoes, to_come, mails_ahead};
 ghost use Rattle.follower.specs.Opening.{OnOtherMe, Opens, StartsLines, StartsMbox};
 ghost use Rattle.follower.specs.declared.fault.Input.TheVariants.{Mbox};
 ghost use Rattle.follower.specs.declared.fault.RunFault.TheVariants as fault;
@@ -210,6 +211,8 @@ impl Follower {
 
     /// The clock comes to a moment, in seconds since 1970-01-01 00:00:00 UTC. `Full` comes exactly where 2^62 changes were
     /// made. Takes memory.
+    ///
+    /// - `cost`: it reads kept cards no more often than the moment may cost, whatever is answered.
     pub fn at<L: Ledger>(&mut self, moment: u64, steps: &mut Steps<L>) -> Result<(), RunFault>
         requires usable { self.old.failed ≡ false }
         requires few { self.old.keeper.pending.count < 256 }
@@ -225,7 +228,7 @@ impl Follower {
         ensures cause { IfErr result (λ why. (why ≡ fault.Full) ⊎ (why ≡ fault.Memory)) }
         ensures mbox { self.new.mbox ≡ self.old.mbox }
         ensures lines { self.new.lines ≡ self.old.lines }
-        ensures cost { steps.new ≡ steps.old }
+        ensures cost { steps.new ≤ steps.old + change_cost self.old.keeper.state.mailbox (At moment) }
     {
         self.failed = true;
         let position = counted(self.keeper.position());
@@ -260,6 +263,8 @@ impl Follower {
     ///
     /// - `goes`: where the mbox tells its bytes, the turn makes the next change that they give, or the reason why not is theirs.
     /// - `kept`, `store`: the shelf that was settled for the follower is so still.
+    /// - `reads`: it reads kept cards no more often than a change may cost, and at the end not at all.
+    /// - `cost`: where the bytes are told, that is the next change that they give.
     pub fn turn_mail<M: Source, L: Ledger>(
         &mut self,
         mbox: &mut M,
@@ -279,7 +284,9 @@ impl Follower {
         ensures possible { IfErr result IsTurnFault }
         ensures took { (bytes : List ℕ) × mbox_reading.Takes (M.left mbox.old) (M.left mbox.new) self.old.mbox self.new.mbox bytes }
         ensures lines { self.new.lines ≡ self.old.lines }
-        ensures cost { steps.new ≡ steps.old }
+        ensures reads { ReadsForOne result self.old.keeper.state.mailbox self.new.keeper.state.mailbox steps.old steps.new }
+        ensures cost { IfKnown (M.left mbox.old) (M.left mbox.new) (λ before _.
+            TurnCosts result self.old.keeper.state (to_come None self.old before None) steps.old steps.new) }
     {
         self.failed = true;
         let position = self.keeper.position();
@@ -338,6 +345,8 @@ impl Follower {
     ///
     /// - `goes`: where both tell their bytes, the turn makes the next change that they give, or the reason why not is theirs.
     /// - `kept`, `store`: the shelf that was settled for the follower is so still.
+    /// - `reads`: it reads kept cards no more often than a change may cost, and at the end not at all.
+    /// - `cost`: where the bytes are told, that is the next change that they give.
     pub fn turn_line<M: Source, S: Source, L: Ledger>(
         &mut self,
         mbox: &mut M,
@@ -364,7 +373,10 @@ impl Follower {
         ensures possible { IfErr result IsTurnFault }
         ensures mbox_took { (bytes : List ℕ) × mbox_reading.Takes (M.left mbox.old) (M.left mbox.new) self.old.mbox self.new.mbox bytes }
         ensures steps_took { (bytes : List ℕ) × steps_reading.Takes (S.left steps_file.old) (S.left steps_file.new) self.old.lines self.new.lines bytes }
-        ensures cost { steps.new ≡ steps.old }
+        ensures reads { ReadsForOne result self.old.keeper.state.mailbox self.new.keeper.state.mailbox steps.old steps.new }
+        ensures cost { (last : Option ℕ) → IfKnown (M.left mbox.old) (M.left mbox.new) (λ mbox_before _.
+            IfKnown (S.left steps_file.old) (S.left steps_file.new) (λ steps_before _.
+            TurnCosts result self.old.keeper.state (to_come last self.old mbox_before (Some steps_before)) steps.old steps.new)) }
     {
         self.failed = true;
         let position = self.keeper.position();

@@ -3,8 +3,9 @@ use Rattle.std.proofs.Common.{◌≡◌, Option, Result, Ok, Err, sym, ◌∙◌
 use Rattle.outside.specs.Places.{Places}
 use Rattle.outside.specs.Moments.{KnownThen, WhereKnown}
 use Rattle.mailbox_model.specs.Lists.{Bytes}
+use Rattle.mailbox_model.specs.Mailbox.{Mailbox}
 use Rattle.box_state.specs.Kept.{Kept}
-use Rattle.engine.specs.Costs.{load}
+use Rattle.indexes.specs.Costs.{load}
 use Rattle.state_image.specs.declared.position.Position.{Position}
 use Rattle.state_store.specs.States.{State}
 use Rattle.state_store.specs.Stands.{Found, found_of, stand_of, stands}
@@ -40,6 +41,12 @@ module _ (old new : Option Places) (same : KnownThen old new SameFound) where
       let before = same.back places is in
       kept_alone k places none (ap (λ (s : State). stands s.mailbox.me places) state ∙ ap (λ (me : Bytes). stands me places) whose
       ∙ ap (stand_of me) (before.holds ∙ finds before.places before.is) ∙ stood ∙ ap (λ (s : State). Ok s) (sym state))
+
+-- what is opened is the state that stands, and of this address
+pub stands_opened : (me : Bytes) (places : Places) (found : Found) (kept : Kept × Position) (m : Mailbox) → found_of places ≡ Ok found → stand_of me (Ok found) ≡ Ok (state_of kept)
+    → kept.0.mailbox.me ≡ me → m ≡ kept.0.mailbox → (stands me places ≡ Ok (record { mailbox = m; position = kept.1 })) × (m.me ≡ me)
+stands_opened me places found kept m finds stood own is =
+    (ap (stand_of me) finds ∙ stood ∙ ap (λ x. Ok (record { mailbox = x; position = kept.1 })) (sym is), ap (λ x. x.me) is ∙ own)
 
 -- what the state that stands takes to be opened
 pub load_is : (me : Bytes) (places : Places) (found : Found) (kept : Kept × Position) → found_of places ≡ Ok found → stand_of me (Ok found) ≡ Ok (state_of kept)

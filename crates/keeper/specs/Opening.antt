@@ -5,7 +5,7 @@ use Rattle.outside.specs.Places.{Places}
 use Rattle.mailbox_model.specs.Lists.{Bytes}
 use Rattle.mailbox_model.specs.Mailbox.{Mailbox}
 use Rattle.box_state.specs.Kept.{Kept}
-use Rattle.engine.specs.Costs.{load}
+use Rattle.indexes.specs.Costs.{load}
 use Rattle.state_image.specs.declared.position.Position.{Position}
 use Rattle.state_store.specs.States.{State}
 use Rattle.state_store.specs.Stands.{in_tail}

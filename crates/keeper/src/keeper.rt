@@ -5,6 +5,7 @@ ghost use Rattle.outside.specs.Crash.{RisesUpTo};
 ghost use Rattle.outside.specs.Moments.{LeavesOnly, Reached, WhereKnown, KnownThen};
 ghost use Rattle.outside.specs.Places.{Places};
 ghost use Rattle.mailbox_model.specs.Mailbox.{after, full, IsValidChange};
+ghost use Rattle.touched_chats.specs.Costs.{change_cost};
 ghost use Rattle.keeper.specs.Keeping.{IsKept, after_change, is_refused};
 ghost use Rattle.keeper.specs.Opening.{AllFindSame, OnOtherMe, Opens};
 ghost use Rattle.keeper.specs.Pending.{none_pending, with_change};
@@ -66,7 +67,7 @@ fn make<L: Ledger>(
     ensures room { OnOk result (full engine.old.mailbox change ≡ false) }
     ensures full { IsErrOf result KeepFault.Full → full engine.old.mailbox change ≡ true }
     ensures cause { IfErr result (λ why. (why ≡ fault.Full) ⊎ (why ≡ fault.Memory)) }
-    ensures cost { steps.new ≡ steps.old }
+    ensures cost { steps.new ≤ steps.old + change_cost engine.old.mailbox change }
 {
     match engine.apply(change, steps) {
         Ok(()) => Ok(()),
@@ -83,7 +84,7 @@ fn has_offsets(position: Position)
 {}
 
 impl Keeper {
-    ghost use Rattle.engine.specs.Costs.{load};
+    ghost use Rattle.indexes.specs.Costs.{load};
     ghost use Rattle.keeper.specs.Keeping.{IsWithin};
     ghost use Rattle.keeper.specs.Opening.{load_of};
     ghost use Rattle.state_store.specs.Commits.{OldOrNew, commit_reads, commit_writes, fill_of, fill_with};
@@ -170,6 +171,7 @@ impl Keeper {
     /// place for it, or 2^62 changes were made. Takes memory.
     ///
     /// - `kept`: it waits after the others for a commit to the same kept state.
+    /// - `cost`: it reads kept cards no more often than the change may cost, whatever is answered.
     pub fn apply<L: Ledger>(
         &mut self,
         change: Change,
@@ -189,7 +191,7 @@ impl Keeper {
         ensures room { OnOk result (is_refused self.old.state change ≡ false) }
         ensures full { IsErrOf result KeepFault.Full → is_refused self.old.state change ≡ true }
         ensures cause { IfErr result (λ why. (why ≡ fault.Full) ⊎ (why ≡ fault.Memory)) }
-        ensures cost { steps.new ≡ steps.old }
+        ensures cost { steps.new ≤ steps.old + change_cost self.old.state.mailbox change }
     {
         if self.position.count == MAX_CHANGES {
             return Err(KeepFault::Full);

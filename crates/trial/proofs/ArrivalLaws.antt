@@ -44,7 +44,7 @@ goes_on m n change changes = by (full m change)
     by true e = absurd cc
     by false e = (let same : after m change ≡ n = cc in ap (λ (m : Mailbox). after_allowed m changes) same)
 
-made_is : (m n : Mailbox) (change : Change) → after_allowed m (change ∷ []) ≡ Some n → n ≡ after m change
+pub made_is : (m n : Mailbox) (change : Change) → after_allowed m (change ∷ []) ≡ Some n → n ≡ after m change
 made_is m n change = by (full m change)
   where
     by : (b : Bool) → by_first m change [] b ≡ Some n → n ≡ after m change
@@ -63,7 +63,7 @@ ends_before m change changes why = by (full m change) why
 -- ---- arrivals
 
 -- an arrival takes the next uid
-next_uid_after : (m : Mailbox) (uid : ℕ) (mail : Mail) → (after m (arrival_of uid mail)).next_uid ≡ m.next_uid + 1
+pub next_uid_after : (m : Mailbox) (uid : ℕ) (mail : Mail) → (after m (arrival_of uid mail)).next_uid ≡ m.next_uid + 1
 next_uid_after m uid mail = by (nat_lt max_mail_len (length mail.bytes)) (card_of uid mail.bytes)
   where
     by : (long : Bool) (read : Result Card CardFault) → (after m (if long then ArriveFault is_fault.TooLong else arrival_with read)).next_uid ≡ m.next_uid + 1

@@ -2,6 +2,7 @@
 pub mod AheadLaws
 pub mod ArrivalLaws
 pub mod Bounds
+pub mod MakingCosts
 pub mod PageLaws
 pub mod PutLaws
 mod Rows

@@ -1,5 +1,5 @@
 -- What is put of a trial.
-use Rattle.std.proofs.Common.{◌≡◌, ℕ, Option, None, Some, Ok, Err, option_map, refl, sym, ap, subst, ◌∙◌}
+use Rattle.std.proofs.Common.{◌≡◌, ℕ, ◌+◌, Option, None, Some, Ok, Err, option_map, refl, sym, ap, subst, ◌∙◌}
 use Rattle.std.specs.Prelude.{◌≢◌}
 use Rattle.std.specs.Io.KnownBytes.{Appends}
 use Rattle.std.specs.Option.{option_map_or}
@@ -11,7 +11,7 @@ use Rattle.mailbox_model.specs.Mailbox.{Mailbox}
 use Rattle.trial.specs.declared.fault.TrialFault.{TrialFault}
 use Rattle.trial.specs.declared.fault.TrialFault.TheVariants as fault
 use Rattle.trial.specs.declared.summary.Summary.{Summary}
-use Rattle.trial.specs.Costs.{summary_cost, trial_cost}
+use Rattle.trial.specs.Costs.{making_cost, summary_cost, trial_cost}
 use Rattle.trial.specs.Faults.{IsUnmade, Puts, print_fault}
 use Rattle.trial.specs.Summaries.{summary_of, summary_text, trial_text}
 use Rattle.trial.specs.Trials.{trial_mailbox}
@@ -46,9 +46,14 @@ line_not_put me number m s old new print.Write made is put =
     subst (λ line. Puts line old new (Err fault.Write)) (sym (line_of me number m s made is)) (put refl)
 line_not_put me number m s old new print.Memory made is put = memory_put (trial_text me number) old new
 
--- what the questions may cost
-pub cost_of : (me : Bytes) (number : ℕ) (m : Mailbox) → trial_mailbox me number ≡ Some m → trial_cost me number ≡ summary_cost m
-cost_of me number m made = ap (λ o. option_map_or summary_cost o 0) made
+-- what the changes and the questions may cost
+pub cost_of : (me : Bytes) (number : ℕ) (m : Mailbox) → trial_mailbox me number ≡ Some m → trial_cost me number ≡ making_cost me number + summary_cost m
+cost_of me number m made = ap (λ o. making_cost me number + option_map_or summary_cost o 0) made
+
+-- a fault of the sink alone
+pub write_alone : (why : PrintFault) → print_fault why ≡ fault.Write → why ≡ print.Write
+write_alone print.Write is = refl
+write_alone print.Memory is = absurd cc
 
 -- at every other refusal than that of the sink
 pub memory_alone : (why : PrintFault) → print_fault why ≢ fault.Write → why ≡ print.Memory

@@ -3,22 +3,23 @@ use Rattle.std.specs.Prelude.{ℕ, ◌+◌, sum_by}
 use Rattle.std.specs.Option.{option_map_or}
 use Rattle.mailbox_model.specs.ChatList.{list_page}
 use Rattle.mailbox_model.specs.Lists.{Bytes}
-use Rattle.mailbox_model.specs.Mailbox.{Mailbox}
-use Rattle.engine.specs.Costs.{list_cost, load, page_cost}
-use Rattle.trial.specs.Trials.{trial_mailbox}
-
--- for the list
-abbrev pub ask_list_cost : Mailbox → ℕ
-ask_list_cost m = load m + list_cost m
+use Rattle.mailbox_model.specs.Mailbox.{Mailbox, empty_mailbox}
+use Rattle.indexes.specs.Costs.{list_cost, page_cost}
+use Rattle.follower.specs.Spending.{change_costs}
+use Rattle.trial.specs.Trials.{trial_changes, trial_mailbox}
 
 -- for the pages of all chats in the list, one after the other
-abbrev pub ask_pages_cost : Mailbox → ℕ
-ask_pages_cost m = sum_by (λ row. load m + page_cost m row.key) (list_page m).rows
+abbrev pub pages_cost : Mailbox → ℕ
+pages_cost m = sum_by (λ row. page_cost m row.key) (list_page m).rows
 
--- for what is built before they are asked for, and then for the list and the pages
+-- for the list and the pages
 abbrev pub summary_cost : Mailbox → ℕ
-summary_cost m = load m + (ask_list_cost m + ask_pages_cost m)
+summary_cost m = list_cost m + pages_cost m
 
--- nothing is asked where the mailbox has no place for one of the mails
+-- for the moment and the arrivals of all mails
+abbrev pub making_cost : Bytes → ℕ → ℕ
+making_cost me number = change_costs (empty_mailbox me) (trial_changes me number)
+
+-- Where the mailbox has no place for one of the mails nothing is asked. The mails after it count all the same.
 abbrev pub trial_cost : Bytes → ℕ → ℕ
-trial_cost me number = option_map_or summary_cost (trial_mailbox me number) 0
+trial_cost me number = making_cost me number + option_map_or summary_cost (trial_mailbox me number) 0

@@ -1,6 +1,9 @@
 //! The mailbox of a trial.
-ghost use Rattle.std.specs.Prelude.{◌≡◌, [], ◌∷◌, false, Some, MatchResult, OnOk};
+ghost use Rattle.std.specs.Prelude.{◌≡◌, ◌≤◌, ◌+◌, [], ◌∷◌, false, Some, MatchResult, OnOk};
 ghost use Rattle.mailbox_model.specs.Mailbox.{IsValidChange};
+ghost use Rattle.touched_chats.specs.Costs.{change_cost};
+ghost use Rattle.follower.specs.Spending.{change_costs};
+ghost use Rattle.trial.specs.Costs.{making_cost};
 ghost use Rattle.trial.specs.Trials.{after_allowed, arrivals, trial_mailbox};
 ghost use Rattle.trial.specs.Faults.{Makes, IsUnmade};
 
@@ -20,7 +23,9 @@ const MAILS: u32 = 2_000;
 const ARRIVAL: u64 = 1_706_745_600;
 
 /// An engine in whose mailbox the mails of a trial have arrived. `Full` comes exactly where the mailbox has no place for one
-/// of them, and `Memory` when memory runs out. No kept card is read.
+/// of them, and `Memory` when memory runs out.
+///
+/// - `cost`: kept cards are read no more often than the changes may.
 pub fn made_engine<L: Ledger>(
     alloc: Global,
     me: Addr,
@@ -28,7 +33,7 @@ pub fn made_engine<L: Ledger>(
     steps: &mut Steps<L>,
 ) -> Result<Engine, TrialFault>
     ensures made { MatchResult result (λ engine. trial_mailbox me number ≡ Some engine.mailbox) (IsUnmade (trial_mailbox me number)) }
-    ensures cost { steps.new ≡ steps.old }
+    ensures cost { steps.new ≤ steps.old + making_cost me number }
 {
     let bytes = box_bytes(alloc, number, MAILS, &me)?;
     let mut mails = BoxMails::new(alloc, bytes)?;
@@ -48,7 +53,7 @@ fn make<L: Ledger>(
     requires valid { IsValidChange change }
     ensures made { Makes (after_allowed engine.old.mailbox (change ∷ [])) result engine.new.mailbox }
     ensures current { OnOk result (engine.new.stale ≡ false) }
-    ensures cost { steps.new ≡ steps.old }
+    ensures cost { steps.new ≤ steps.old + change_cost engine.old.mailbox change }
 {
     match engine.apply(change, steps) {
         Ok(()) => Ok(()),
@@ -69,7 +74,7 @@ fn arrive_all<L: Ledger>(
     requires usable { mails.old.refused ≡ false }
     ensures made { Makes (after_allowed engine.old.mailbox (arrivals engine.old.mailbox.next_uid mails.old.mails)) result engine.new.mailbox }
     ensures current { OnOk result (engine.new.stale ≡ false) }
-    ensures cost { steps.new ≡ steps.old }
+    ensures cost { steps.new ≤ steps.old + change_costs engine.old.mailbox (arrivals engine.old.mailbox.next_uid mails.old.mails) }
 {
     loop {
         let uid = engine.mailbox().next_uid();

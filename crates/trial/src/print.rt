@@ -28,8 +28,8 @@ use std::sync::ledger::Ledger;
 ///
 /// - `puts`: the whole line was put, in one piece, or at `Write` a prefix of it.
 /// - `nothing`: at every other refusal nothing was put.
-/// - `cost`: whatever the answer, kept cards are read no more often than the questions may, which are the list and the page
-///   of each chat, and what is built for them.
+/// - `cost`: whatever the answer, kept cards are read no more often than the changes may, which are the moment and the
+///   arrivals, and the questions, which are the list and the page of each chat in it.
 pub fn print_trial<K: Sink, L: Ledger>(
     alloc: Global,
     me: Addr,
@@ -43,8 +43,8 @@ pub fn print_trial<K: Sink, L: Ledger>(
     ensures later { K.faults out.old ≤ K.faults out.new }
     ensures cost { steps.new ≤ steps.old + trial_cost me number }
 {
-    let mut engine = made_engine(alloc, me, number, steps)?;
-    let summary = summary_of(&mut engine, steps)?;
+    let engine = made_engine(alloc, me, number, steps)?;
+    let summary = summary_of(&engine, steps)?;
     Ok(print_summary(alloc, number, summary, out)?)
 }
 

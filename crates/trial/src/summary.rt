@@ -2,8 +2,8 @@
 ghost use Rattle.std.specs.Prelude.{◌≡◌, ◌<◌, ◌≤◌, ◌+◌, ◌^◌, true, is_some, length, IfOk, string_bytes};
 ghost use Rattle.mailbox_model.specs.ChatList.{list_page};
 ghost use Rattle.mailbox_model.specs.Pages.{page, page_of};
-ghost use Rattle.engine.specs.Costs.{load, page_cost};
-ghost use Rattle.trial.specs.Costs.{ask_list_cost, ask_pages_cost, summary_cost};
+ghost use Rattle.indexes.specs.Costs.{list_cost, page_cost};
+ghost use Rattle.trial.specs.Costs.{pages_cost, summary_cost};
 ghost use Rattle.trial.specs.Summaries.{summary_of, summary_text};
 
 use card_type::ChatKey;
@@ -27,7 +27,7 @@ pub struct Summary {
 /// The list of an engine.
 fn list_of<L: Ledger>(engine: &Engine, steps: &mut Steps<L>) -> Result<ListPage, Memory>
     ensures page { IfOk result (λ found. found ≡ list_page engine.now.mailbox) }
-    ensures cost { steps.new ≤ steps.old + ask_list_cost engine.now.mailbox }
+    ensures cost { steps.new ≤ steps.old + list_cost engine.now.mailbox }
 {
     match engine.list(steps) {
         Ok(list) => Ok(list),
@@ -41,7 +41,7 @@ fn list_of<L: Ledger>(engine: &Engine, steps: &mut Steps<L>) -> Result<ListPage,
 fn shown_in<L: Ledger>(engine: &Engine, key: &ChatKey, steps: &mut Steps<L>) -> Result<u64, Memory>
     requires there { is_some (page engine.now.mailbox key.now) ≡ true }
     ensures count { IfOk result (λ count. count ≡ length (page_of engine.now.mailbox key.now).rows) }
-    ensures cost { steps.new ≤ steps.old + (load engine.now.mailbox + page_cost engine.now.mailbox key.now) }
+    ensures cost { steps.new ≤ steps.old + page_cost engine.now.mailbox key.now }
 {
     match engine.chat(key, steps) {
         Ok(page) => Ok(page.rows.len() as u64),
@@ -60,12 +60,10 @@ fn fresh_in(row: &ListRow) -> u64
 }
 
 /// What the mailbox of an engine shows. Takes memory; `Err` only when it runs out.
-pub fn summary_of<L: Ledger>(engine: &mut Engine, steps: &mut Steps<L>) -> Result<Summary, Memory>
-    ensures summary { IfOk result (λ summary. summary ≡ summary_of engine.old.mailbox) }
-    ensures cost { steps.new ≤ steps.old + summary_cost engine.old.mailbox }
+pub fn summary_of<L: Ledger>(engine: &Engine, steps: &mut Steps<L>) -> Result<Summary, Memory>
+    ensures summary { IfOk result (λ summary. summary ≡ summary_of engine.now.mailbox) }
+    ensures cost { steps.new ≤ steps.old + summary_cost engine.now.mailbox }
 {
-    // Each question is then answered from what is built here, once.
-    engine.rebuild(steps)?;
     let list = list_of(engine, steps)?;
     count_pages(engine, &list, steps)
 }
@@ -78,7 +76,7 @@ fn count_pages<L: Ledger>(
 ) -> Result<Summary, Memory>
     requires list { list.now ≡ list_page engine.now.mailbox }
     ensures summary { IfOk result (λ summary. summary ≡ summary_of engine.now.mailbox) }
-    ensures cost { steps.new ≤ steps.old + ask_pages_cost engine.now.mailbox }
+    ensures cost { steps.new ≤ steps.old + pages_cost engine.now.mailbox }
 {
     // For its clause `rules`: a mailbox has no more than 65,536 mails, and so its list and its pages no more rows.
     let _me = engine.mailbox().me();

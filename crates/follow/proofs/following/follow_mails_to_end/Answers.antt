@@ -7,7 +7,7 @@ use Rattle.state_store.specs.declared.store.Store.{Store}
 use Rattle.follower.specs.Committing.{Prefix, Stops, outset}
 use Rattle.follower.specs.Spending.{counts}
 use Rattle.follower.proofs.Rounds.{nothing_leaves}
-use Rattle.follow.proofs.Followed.{first_way, later_on, moment_made, moment_refused, whole}
+use Rattle.follow.proofs.Followed.{first_way, moment_costs, moment_made, moment_refused, whole}
 use Rattle.follow.proofs.following.follow_mails_to_end.Goals as goal
 
 pub follow_mails-requires-clause-stored : goal.follow_mails-requires-clause-stored
@@ -26,8 +26,7 @@ returns-in_err-at-clause-goes g c = λ rest mails is ahead known.
     let way = first_way k feed now (H.seen shelf) c.requires.pending known in
     rw (p.1, p.2) (
       nothing_leaves H.moment H.left_since H.seen H.may_leave (outset k now) feed feed k now shelf (g.met.H.Shelf.only_now shelf) way c.requires.stored,
-      subst (λ (n : ℕ). Stops c.in_err-at.field-0.0 (outset k now) feed (counts n (H.written shelf)) (H.may_leave shelf)) (sym c.in_err-at.ensures.cost)
-          (moment_refused k mails c.args.moment now (H.seen shelf) (H.may_leave shelf) c.in_err-at.field-0.0 way c.requires.pending c.requires.stored c.in_err-at.ensures.cause
+      (moment_refused k mails c.args.moment now (counts c.at.new.steps (H.written shelf)) (moment_costs k mails c.args.moment now c.at.new.steps c.in_err-at.ensures.cost) (H.seen shelf) (H.may_leave shelf) c.in_err-at.field-0.0 way c.requires.pending c.requires.stored c.in_err-at.ensures.cause
           (λ e. c.in_err-at.ensures.full (ap Err e))),
     )
 
@@ -41,8 +40,8 @@ returns-in_err-follow_mails-clause-goes g c = λ rest mails is ahead known.
     let now = counts c.args.steps.now (H.written shelf) in
     let feed = whole k mails c.args.moment in
     let made = c.in_ok-at.ensures in
-    let on = later_on (g.M.Source.left c.args.mbox.now) (H.seen shelf) (H.written shelf) (outset k now) feed c.at.new.self c.args.steps.now c.at.new.steps made.cost
-    (moment_made k mails c.args.moment now (H.seen shelf) f c.at.new.self (g.M.Source.left c.args.mbox.now) rest is ahead made.mbox (first_way k feed now (H.seen shelf) c.requires.pending known) made.room made.state made.pending made.store) in
+    let on =
+    (moment_made k mails c.args.moment now (counts c.at.new.steps (H.written shelf)) (moment_costs k mails c.args.moment now c.at.new.steps made.cost) (H.seen shelf) f c.at.new.self (g.M.Source.left c.args.mbox.now) rest is ahead made.mbox (first_way k feed now (H.seen shelf) c.requires.pending known) made.room made.state made.pending made.store) in
     rw (p.1, p.2) (c.in_err-follow_mails.ensures.goes (outset k now) feed on)
 
 pub returns-clause-goes : goal.returns-clause-goes
@@ -56,8 +55,8 @@ returns-clause-goes g c = λ rest mails is ahead known.
     let now = counts c.args.steps.now (H.written shelf) in
     let feed = whole k mails c.args.moment in
     let made = c.in_ok-at.ensures in
-    let on = later_on (g.M.Source.left c.args.mbox.now) (H.seen shelf) (H.written shelf) (outset k now) feed c.at.new.self c.args.steps.now c.at.new.steps made.cost
-    (moment_made k mails c.args.moment now (H.seen shelf) f c.at.new.self (g.M.Source.left c.args.mbox.now) rest is ahead made.mbox (first_way k feed now (H.seen shelf) c.requires.pending known) made.room made.state made.pending made.store) in
+    let on =
+    (moment_made k mails c.args.moment now (counts c.at.new.steps (H.written shelf)) (moment_costs k mails c.args.moment now c.at.new.steps made.cost) (H.seen shelf) f c.at.new.self (g.M.Source.left c.args.mbox.now) rest is ahead made.mbox (first_way k feed now (H.seen shelf) c.requires.pending known) made.room made.state made.pending made.store) in
     let first = c.in_ok-follow_mails.ensures.goes (outset k now) feed on in
     let second = c.commit_all.ensures.goes (outset k now) feed first.1 in (
       and_then H.moment H.left_since shelf mid new (Prefix k.state feed) (Prefix k.state feed) (Prefix k.state feed) first.0 second.0 (λ _ x. x) (λ _ x. x),

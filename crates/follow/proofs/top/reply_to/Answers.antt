@@ -10,7 +10,7 @@ use Rattle.follow.specs.Replies.{Puts}
 use Rattle.follow.specs.Statuses.{answer_refusal}
 use Rattle.follow.specs.declared.status.Refusal.{Refusal}
 use Rattle.follow.proofs.Clocks.{AsksClock-weaker}
-use Rattle.follow.proofs.Replied.{answer_apart, answer_last, answer_spends, no_cause, not_asked, not_words, puts_refusal, puts_whole, stops_last, stops_put}
+use Rattle.follow.proofs.Replied.{answer_apart, answer_last, answer_spends, no_cause, not_asked, not_words, not_written, puts_refusal, puts_whole, stops_last, stops_put}
 use Rattle.follow.proofs.top.reply_to.Goals as goal
 
 -- ---- the files are not followed to their end
@@ -80,6 +80,12 @@ pub returns-in_err-print_answer-in-Ok-clause-no_usage : goal.returns-in_err-prin
 returns-in_err-print_answer-in-Ok-clause-no_usage g c =
     let p = err_from_is_err_and c.from_residual.result c.from_residual.ensures.1 in
     rw (p.1, p.2) (not_asked c.in_err-print_answer-in-Ok.field-0.0)
+
+pub returns-in_err-print_answer-in-Ok-clause-write : goal.returns-in_err-print_answer-in-Ok-clause-write
+returns-in_err-print_answer-in-Ok-clause-write g c =
+    let p = err_from_is_err_and c.from_residual.result c.from_residual.ensures.1 in
+    let why = c.in_err-print_answer-in-Ok.field-0.0 in
+    rw (p.1, p.2) (λ is. c.in_err-print_answer-in-Ok.ensures.cause (ap Err (not_written (Err (answer_refusal why)) why refl is)))
 
 -- ---- the answer is put
 

@@ -1,7 +1,6 @@
-use Rattle.std.proofs.Common.{◌≡◌, ℕ, Option, None, Some, refl, ap, subst, sym, ◌∙◌}
+use Rattle.std.proofs.Common.{◌≡◌, ℕ, Option, None, Some, refl, ap, sym, ◌∙◌}
 use Rattle.std.proofs.lemmas.Result.{err_from_is_err_and}
 use Rattle.state_store.specs.States.{State}
-use Rattle.follower.specs.Committing.{LastGoes}
 use Rattle.follower.specs.Feed.{last_fed}
 use Rattle.follower.specs.Spending.{counts}
 use Rattle.follower.proofs.Rounds.{free_stop, last_goes, no_last, nothing_leaves, still_stored}
@@ -26,9 +25,8 @@ returns-clause-goes g c = λ start feed on.
     let moment = c.in-Some.moment in
     let is = on.to_come ∙ ap (λ o. last_fed o c.args.follower.now.keeper.state.position) c.in-Some.is ∙ ap (λ (s : State). last_fed (Some moment) s.position) (sym committed.state) in (
       way.0,
-      subst (λ (n : ℕ). LastGoes c.at.result start feed new (counts n (H.written shelf)) (H.seen shelf) (H.may_leave shelf)) (sym c.at.ensures.cost)
-          (last_goes start feed (counts c.commit_if_full.new.steps (H.written shelf)) (H.may_leave shelf) (H.seen shelf) moment on.others mid new c.at.result is way.1 committed.few committed.stored
-          c.at.ensures.room c.at.ensures.state c.at.ensures.pending c.at.ensures.store c.at.ensures.full c.at.ensures.cause),
+      last_goes start feed (counts c.commit_if_full.new.steps (H.written shelf)) (H.may_leave shelf) (H.seen shelf) moment on.others mid new is way.1 committed.few committed.stored
+          c.at.new.steps c.at.ensures.cost c.at.result c.at.ensures.room c.at.ensures.state c.at.ensures.pending c.at.ensures.store c.at.ensures.full c.at.ensures.cause,
     )
 
 pub returns-clause-stored : goal.returns-clause-stored

@@ -1,8 +1,7 @@
-use Rattle.std.proofs.Common.{ℕ, sym, subst}
 use Rattle.std.proofs.lemmas.Result.{err_from_is_err_and}
-use Rattle.follower.specs.Committing.{LinesToCome, RoundGoes}
+use Rattle.follower.specs.Committing.{LinesToCome}
 use Rattle.follower.specs.Spending.{counts}
-use Rattle.follower.proofs.Rounds.{free_stop, line_turn, lines_same, round_goes, still_stored}
+use Rattle.follower.proofs.Rounds.{free_stop, line_costs, line_turn, lines_same, round_goes, still_stored}
 use Rattle.follower.proofs.turns.round_of_line.Goals as goal
 
 pub returns-in_err-commit_if_full-clause-goes : goal.returns-in_err-commit_if_full-clause-goes
@@ -25,12 +24,12 @@ returns-clause-goes g c = λ last start feed on.
     let way = committed.goes start feed on.others on.known in
     let comes = lines_same (mails c.args.mbox.now) (left c.args.steps_file.now) last c.args.follower.now mid on.others committed.state committed.mbox committed.lines on.to_come in
     let turn = line_turn (mails c.args.mbox.now) (mails c.turn_line.new.mbox) (left c.args.steps_file.now) (left c.turn_line.new.steps_file) last mid new c.turn_line.result on.others
-    (c.turn_line.ensures.goes last) comes in (
+    (c.turn_line.ensures.goes last) comes in
+    let costs = line_costs (mails c.args.mbox.now) (mails c.turn_line.new.mbox) (left c.args.steps_file.now) (left c.turn_line.new.steps_file) last mid c.turn_line.result
+    c.commit_if_full.new.steps c.turn_line.new.steps on.others (c.turn_line.ensures.cost last) comes in (
       way.0,
-      subst (λ (n : ℕ). RoundGoes last c.turn_line.result start feed (LinesToCome last new (mails c.turn_line.new.mbox) (left c.turn_line.new.steps_file)) new.keeper (counts n (H.written shelf)) (H.seen shelf) (H.may_leave shelf))
-          (sym c.turn_line.ensures.cost)
-          (round_goes start feed (counts c.commit_if_full.new.steps (H.written shelf)) (H.may_leave shelf) (H.seen shelf) last (LinesToCome last new (mails c.turn_line.new.mbox) (left c.turn_line.new.steps_file)) mid new
-          on.others turn.0 c.turn_line.result way.1 turn.1 turn.2 c.turn_line.ensures.adds c.turn_line.ensures.store committed.few committed.stored),
+      round_goes start feed (counts c.commit_if_full.new.steps (H.written shelf)) (H.may_leave shelf) (H.seen shelf) last (LinesToCome last new (mails c.turn_line.new.mbox) (left c.turn_line.new.steps_file)) mid new
+          on.others turn.0 c.turn_line.result c.turn_line.new.steps way.1 turn.1 turn.2 costs c.turn_line.ensures.adds c.turn_line.ensures.store committed.few committed.stored,
     )
 
 pub returns-clause-stored : goal.returns-clause-stored

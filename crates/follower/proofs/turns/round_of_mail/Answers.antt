@@ -1,8 +1,8 @@
-use Rattle.std.proofs.Common.{ℕ, None, sym, subst}
+use Rattle.std.proofs.Common.{None}
 use Rattle.std.proofs.lemmas.Result.{err_from_is_err_and}
-use Rattle.follower.specs.Committing.{MailsToCome, RoundGoes}
+use Rattle.follower.specs.Committing.{MailsToCome}
 use Rattle.follower.specs.Spending.{counts}
-use Rattle.follower.proofs.Rounds.{free_stop, mail_turn, mails_same, round_goes, still_stored}
+use Rattle.follower.proofs.Rounds.{free_stop, mail_costs, mail_turn, mails_same, round_goes, still_stored}
 use Rattle.follower.proofs.turns.round_of_mail.Goals as goal
 
 pub returns-in_err-commit_if_full-clause-goes : goal.returns-in_err-commit_if_full-clause-goes
@@ -23,11 +23,11 @@ returns-clause-goes g c = λ start feed on.
     let committed = c.in_ok-commit_if_full.ensures in
     let way = committed.goes start feed on.others on.known in
     let comes = mails_same (left c.args.mbox.now) c.args.follower.now mid on.others committed.state committed.mbox on.to_come in
-    let turn = mail_turn (left c.args.mbox.now) (left c.turn_mail.new.mbox) mid new c.turn_mail.result on.others c.turn_mail.ensures.goes comes in (
+    let turn = mail_turn (left c.args.mbox.now) (left c.turn_mail.new.mbox) mid new c.turn_mail.result on.others c.turn_mail.ensures.goes comes in
+    let costs = mail_costs (left c.args.mbox.now) (left c.turn_mail.new.mbox) mid c.turn_mail.result c.commit_if_full.new.steps c.turn_mail.new.steps on.others c.turn_mail.ensures.cost comes in (
       way.0,
-      subst (λ (n : ℕ). RoundGoes None c.turn_mail.result start feed (MailsToCome new (left c.turn_mail.new.mbox)) new.keeper (counts n (H.written shelf)) (H.seen shelf) (H.may_leave shelf)) (sym c.turn_mail.ensures.cost)
-          (round_goes start feed (counts c.commit_if_full.new.steps (H.written shelf)) (H.may_leave shelf) (H.seen shelf) None (MailsToCome new (left c.turn_mail.new.mbox)) mid new on.others turn.0 c.turn_mail.result
-          way.1 turn.1 turn.2 c.turn_mail.ensures.adds c.turn_mail.ensures.store committed.few committed.stored),
+      round_goes start feed (counts c.commit_if_full.new.steps (H.written shelf)) (H.may_leave shelf) (H.seen shelf) None (MailsToCome new (left c.turn_mail.new.mbox)) mid new on.others turn.0 c.turn_mail.result
+          c.turn_mail.new.steps way.1 turn.1 turn.2 costs c.turn_mail.ensures.adds c.turn_mail.ensures.store committed.few committed.stored,
     )
 
 pub returns-clause-stored : goal.returns-clause-stored

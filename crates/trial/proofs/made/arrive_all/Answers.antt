@@ -3,6 +3,7 @@ use Rattle.std.proofs.Common.{ap, subst, sym, ◌∙◌}
 use Rattle.mailbox_model.specs.Mailbox.{Mailbox}
 use Rattle.trial.specs.Faults.{IsUnmade}
 use Rattle.trial.proofs.ArrivalLaws.{arrival_made, arrival_unmade, fewer_left, none_arrives}
+use Rattle.trial.proofs.MakingCosts.{arrival_spent, arrival_within}
 use Rattle.trial.proofs.made.arrive_all.Goals as goal
 
 pub loop-change-smaller : goal.loop-change-smaller
@@ -18,7 +19,8 @@ loop-change-preserved g c =
       same = c.loop-change.invariant.same
           ∙ arrival_made c.loop-change.engine.mailbox c.make.new.engine.mailbox c.next_uid-uid.result c.loop-change.mails.mails c.next_arrival.new.self.mails
           c.in_ok-change.field-0 c.in-Some.change c.in-Some.is uid c.in_ok-change.ensures.next c.in_ok-make.ensures.made;
-      cost = c.make.ensures.cost ∙ c.loop-change.invariant.cost;
+      cost = arrival_spent c.loop-change.engine.mailbox c.make.new.engine.mailbox c.next_uid-uid.result c.loop-change.mails.mails c.next_arrival.new.self.mails
+          c.in_ok-change.field-0 c.in-Some.change _ _ _ c.in-Some.is uid c.in_ok-change.ensures.next c.in_ok-make.ensures.made c.loop-change.invariant.cost c.make.ensures.cost;
     }
 
 pub returns-in_err-make-clause-made : goal.returns-in_err-make-clause-made
@@ -34,3 +36,9 @@ pub returns-in_default-clause-made : goal.returns-in_default-clause-made
 returns-in_default-clause-made g c =
     c.loop-change.invariant.same
     ∙ none_arrives c.loop-change.engine.mailbox c.next_uid-uid.result c.loop-change.mails.mails c.next_arrival.new.self.mails c.in_ok-change.field-0 c.in_default.is c.in_ok-change.ensures.next
+
+pub returns-in_err-make-clause-cost : goal.returns-in_err-make-clause-cost
+returns-in_err-make-clause-cost g c =
+    let uid = c.next_uid-uid.ensures ∙ ap (λ (m : Mailbox). m.next_uid) c.mailbox.ensures in
+    arrival_within c.loop-change.engine.mailbox c.next_uid-uid.result c.loop-change.mails.mails c.next_arrival.new.self.mails c.in_ok-change.field-0 c.in-Some.change _ _ _
+    c.in-Some.is uid c.in_ok-change.ensures.next c.loop-change.invariant.cost c.make.ensures.cost

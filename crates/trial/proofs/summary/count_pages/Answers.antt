@@ -7,8 +7,8 @@ use Rattle.mailbox_model.specs.declared.list.ListRow.{ListRow}
 use Rattle.mailbox_model.specs.ChatList.{list_page}
 use Rattle.mailbox_model.specs.Mailbox.{IsMailbox}
 use Rattle.mailbox_model.specs.Pages.{page_of}
-use Rattle.engine.specs.Costs.{load, page_cost}
-use Rattle.engine.proofs.PagedSteps.{sum_next, sum_within}
+use Rattle.indexes.specs.Costs.{page_cost}
+use Rattle.indexes.proofs.PagedSteps.{sum_next, sum_within}
 use Rattle.trial.proofs.Bounds.{list_is_short, page_is_short}
 use Rattle.trial.proofs.PageLaws.{has_key_at}
 use Rattle.trial.proofs.summary.count_pages.Goals as goal
@@ -33,8 +33,8 @@ returns-in_err-shown-clause-cost g c =
       arith,
       c.loop-row.invariant.read,
       c.shown_in.ensures.cost,
-      sum_within rows c.loop-row.row-index c.row-item.result c.loop-row-test.true c.row-item.is (λ (row : ListRow). load m + page_cost m row.key),
-      ap (sum_by (λ (row : ListRow). load m + page_cost m row.key)) same,
+      sum_within rows c.loop-row.row-index c.row-item.result c.loop-row-test.true c.row-item.is (λ (row : ListRow). page_cost m row.key),
+      ap (sum_by (λ (row : ListRow). page_cost m row.key)) same,
     )
 
 pub overflow_add-shown : goal.overflow_add-shown
@@ -69,7 +69,7 @@ loop-row-preserved g c =
     let few : c.loop-row.shown ≤ 65536 * i = past.few_shown in
     let more : (f : ListRow → ℕ) → sum_by f (take (i + 1) rows) ≡ sum_by f (take i rows) + f row = sum_next rows i row c.loop-row-test.true c.row-item.is in
     record {
-      read = omega (arith, past.read, c.shown_in.ensures.cost, more (λ row. load m + page_cost m row.key));
+      read = omega (arith, past.read, c.shown_in.ensures.cost, more (λ row. page_cost m row.key));
       shown = omega (arith, past.shown, c.in_ok-shown.ensures.count, more (λ row. length (page_of m row.key).rows));
       fresh = omega (arith, past.fresh, c.fresh_in.ensures.count, more (λ row. row.fresh));
       few_shown = omega (arith, few, page, c.in_ok-shown.ensures.count);

@@ -2,7 +2,7 @@ use Rattle.std.proofs.Common.{◌≡◌, ◌≤◌, ◌+◌, ◌*◌, length, ta
 use Rattle.std.specs.Prelude.{sum_by}
 use Rattle.mailbox_model.specs.Mailbox.{max_entries}
 use Rattle.mailbox_model.specs.Pages.{page_of}
-use Rattle.engine.specs.Costs.{load, page_cost}
+use Rattle.indexes.specs.Costs.{page_cost}
 use Rattle.trial.proofs.summary.count_pages.Given as goal
 
 -- the rows of the list so far are counted
@@ -11,7 +11,7 @@ invariant-loop-row g l =
     let m = l.engine.mailbox in
     let rows = take l.row-index l.row-items in
     record {
-      read : l.steps ≤ l.fn.steps + sum_by (λ row. load m + page_cost m row.key) rows;
+      read : l.steps ≤ l.fn.steps + sum_by (λ row. page_cost m row.key) rows;
       shown : l.shown ≡ sum_by (λ row. length (page_of m row.key).rows) rows;
       fresh : l.fresh ≡ sum_by (λ row. row.fresh) rows;
       few_shown : l.shown ≤ max_entries * l.row-index;

@@ -1,12 +1,13 @@
 use Rattle.std.proofs.lemmas.Result.{err_from_is_err_and}
-use Rattle.std.proofs.Common.{◌≡◌, ◌+◌, ℕ, List, Err, true, false, ap, subst, sym, ◌∙◌}
+use Rattle.std.proofs.Common.{◌≡◌, ◌≤◌, ◌+◌, ℕ, List, Err, true, false, ap, subst, sym, ◌∙◌}
 use Rattle.keeper.specs.Keeping.{after_change, is_refused}
 use Rattle.keeper.specs.Pending.{with_change}
 use Rattle.mboxrd.specs.Reading as mbox_reading
 use Rattle.follower.specs.Feed.{counted}
 use Rattle.follower.specs.Following.{Following}
 use Rattle.state_image.specs.declared.position.Position.{Position}
-use Rattle.follower.proofs.Turning.{keep_cause, keep_full, line_stops, line_turns, lines_known}
+use Rattle.touched_chats.specs.Costs.{change_cost}
+use Rattle.follower.proofs.Turning.{keep_cause, keep_full, line_reads, line_stops, line_turns, lines_known, made_reads, none_reads, tried_reads}
 use Rattle.follower.proofs.follower.Follower.turn_line.Goals as goal
 
 pub returns-in_err-change-clause-mbox_took : goal.returns-in_err-change-clause-mbox_took
@@ -59,3 +60,56 @@ returns-clause-goes g c = λ last.
     let same = ap (λ (f : Following). f.lines) c.self-2.view_is ∙ ap (λ (f : Following). f.lines) c.in_ok-change.ensures.rest in
     line_turns _ _ _ _ old _ c.change_of.new.self _ c.in-Step.step c.at_line-position.result (change, position) here c.in_ok-change.ensures.rest
     (sym c.requires.place) c.in-Step.is next place c.in_ok-change.ensures.makes new last room (state, pending) (ap (λ (f : Following). f.mbox) c.self-2.view_is) same
+
+pub returns-in_err-apply-clause-cost : goal.returns-in_err-apply-clause-cost
+returns-in_err-apply-clause-cost g c = λ last.
+    let p = err_from_is_err_and c.from_residual-in_err-apply.result c.from_residual-in_err-apply.ensures.1 in
+    let old : Following = record c.args.self.now { failed = true } in
+    let next = lines_known (g.S.Source.left c.args.steps_file.now) (g.S.Source.left c.next.new.source) c.self.inside.lines old.lines c.next.new.self c.in_ok-step.field-0
+    (ap (λ (f : Following). f.lines) c.self.view_is) c.in_ok-step.ensures.answer in
+    let here = ap (λ (f : Following). record f { lines = c.next.new.self; failed = true }) c.self.view_is in
+    let before = c.counted.ensures ∙ ap counted (c.position-position.ensures.value ∙ ap (λ (f : Following). f.keeper.state.position) c.self.view_is) in
+    let place = c.at_line-position.ensures ∙ ap (λ (p : Position). record p { steps = c.place-2.result; lines = p.lines + 1 }) before
+    ∙ ap (λ steps. record (counted old.keeper.state.position) { steps = steps; lines = old.keeper.state.position.lines + 1 }) c.place-2.ensures in
+    let cost = subst (λ (f : Following). c.apply.new.steps ≤ c.args.steps.now + change_cost f.keeper.state.mailbox c.in_ok-change.change) c.self-2.view_is c.in_err-apply.ensures.cost in
+    rw p.1 (line_reads _ _ _ _ old _ c.change_of.new.self _ c.in-Step.step c.at_line-position.result (c.in_ok-change.change, c.in_ok-change.position) here c.in_ok-change.ensures.rest
+    (sym c.requires.place) c.in-Step.is next place c.in_ok-change.ensures.makes last c.args.steps.now c.apply.new.steps cost)
+
+pub returns-clause-cost : goal.returns-clause-cost
+returns-clause-cost g c = λ last.
+    let old : Following = record c.args.self.now { failed = true } in
+    let next = lines_known (g.S.Source.left c.args.steps_file.now) (g.S.Source.left c.next.new.source) c.self.inside.lines old.lines c.next.new.self c.in_ok-step.field-0
+    (ap (λ (f : Following). f.lines) c.self.view_is) c.in_ok-step.ensures.answer in
+    let here = ap (λ (f : Following). record f { lines = c.next.new.self; failed = true }) c.self.view_is in
+    let before = c.counted.ensures ∙ ap counted (c.position-position.ensures.value ∙ ap (λ (f : Following). f.keeper.state.position) c.self.view_is) in
+    let place = c.at_line-position.ensures ∙ ap (λ (p : Position). record p { steps = c.place-2.result; lines = p.lines + 1 }) before
+    ∙ ap (λ steps. record (counted old.keeper.state.position) { steps = steps; lines = old.keeper.state.position.lines + 1 }) c.place-2.ensures in
+    let cost = subst (λ (f : Following). c.apply.new.steps ≤ c.args.steps.now + change_cost f.keeper.state.mailbox c.in_ok-change.change) c.self-2.view_is c.in_ok-apply.ensures.cost in
+    line_reads _ _ _ _ old _ c.change_of.new.self _ c.in-Step.step c.at_line-position.result (c.in_ok-change.change, c.in_ok-change.position) here c.in_ok-change.ensures.rest
+    (sym c.requires.place) c.in-Step.is next place c.in_ok-change.ensures.makes last c.args.steps.now c.apply.new.steps cost
+
+pub returns-in_err-step-clause-reads : goal.returns-in_err-step-clause-reads
+returns-in_err-step-clause-reads g c =
+    let p = err_from_is_err_and c.from_residual.result c.from_residual.ensures.1 in
+    rw p.1 (none_reads c.args.self.now.keeper.state.mailbox c.args.steps.now)
+
+pub returns-in-NoStep-clause-reads : goal.returns-in-NoStep-clause-reads
+returns-in-NoStep-clause-reads g c = none_reads c.args.self.now.keeper.state.mailbox c.args.steps.now
+
+pub returns-in_err-change-clause-reads : goal.returns-in_err-change-clause-reads
+returns-in_err-change-clause-reads g c =
+    let p = err_from_is_err_and c.from_residual-in_err-change.result c.from_residual-in_err-change.ensures.1 in
+    rw p.1 (none_reads c.args.self.now.keeper.state.mailbox c.args.steps.now)
+
+pub returns-in_err-apply-clause-reads : goal.returns-in_err-apply-clause-reads
+returns-in_err-apply-clause-reads g c =
+    let p = err_from_is_err_and c.from_residual-in_err-apply.result c.from_residual-in_err-apply.ensures.1 in
+    let keeper = λ (f : Following). f.keeper in
+    let same = ap keeper c.self-2.view_is ∙ ap keeper c.in_ok-change.ensures.rest ∙ ap keeper c.self.view_is in
+    rw p.1 (tried_reads c.args.self.now.keeper c.self-2.inside.keeper c.in_ok-change.change c.args.steps.now c.apply.new.steps same c.in_err-apply.ensures.cost)
+
+pub returns-clause-reads : goal.returns-clause-reads
+returns-clause-reads g c =
+    let keeper = λ (f : Following). f.keeper in
+    let same = ap keeper c.self-2.view_is ∙ ap keeper c.in_ok-change.ensures.rest ∙ ap keeper c.self.view_is in
+    made_reads c.args.self.now.keeper c.self-2.inside.keeper c.apply.new.self c.in_ok-change.change c.in_ok-change.position c.args.steps.now c.apply.new.steps same c.in_ok-apply.ensures.state c.in_ok-apply.ensures.cost

@@ -1,5 +1,5 @@
 use Rattle.std.proofs.lemmas.Result.{err_from_is_err_and}
-use Rattle.std.proofs.Common.{◌≡◌, None, Err, true, false, ap, subst, sym, ◌∙◌}
+use Rattle.std.proofs.Common.{◌≡◌, ◌≤◌, ◌+◌, None, Err, true, false, ap, subst, sym, ◌∙◌}
 use Rattle.keeper.specs.Keeping.{after_change, is_refused}
 use Rattle.keeper.specs.Pending.{with_change}
 use Rattle.follower.specs.Feed.{counted}
@@ -7,7 +7,9 @@ use Rattle.source_buffer.specs.Known.{IfKnown}
 use Rattle.follower.specs.Following.{Following, keep_fault, to_come}
 use Rattle.follower.specs.Going.{MakesFirst, StopsAt}
 use Rattle.state_image.specs.declared.position.Position.{Position}
-use Rattle.follower.proofs.Turning.{keep_cause, keep_full, mail_stops, mail_turns}
+use Rattle.follower.specs.Spending.{next_cost}
+use Rattle.touched_chats.specs.Costs.{change_cost}
+use Rattle.follower.proofs.Turning.{keep_cause, keep_full, made_reads, mail_reads, mail_stops, mail_turns, none_reads, tried_reads}
 use Rattle.follower.proofs.follower.Follower.turn_mail.Goals as goal
 
 pub returns-in_err-apply-clause-goes : goal.returns-in_err-apply-clause-goes
@@ -37,3 +39,38 @@ returns-clause-goes g c =
     let turns = mail_turns _ _ old mid _ change rest c.in-Some.is c.in_ok-change.ensures.next new q room (state, pending) place (ap (λ (f : Following). f.mbox) c.self-2.view_is) in
     subst (λ (f : Following). IfKnown (g.M.Source.left c.args.mbox.now) (g.M.Source.left c.next_arrival.new.mbox) (λ before after.
     MakesFirst f.keeper (to_come None f before None) new.keeper (to_come None new after None))) c.self.view_is turns
+
+pub returns-in_err-apply-clause-cost : goal.returns-in_err-apply-clause-cost
+returns-in_err-apply-clause-cost g c =
+    let p = err_from_is_err_and c.from_residual-in_err-apply.result c.from_residual-in_err-apply.ensures.1 in
+    let old : Following = record { keeper = c.self.inside.keeper; mbox = c.self.inside.mbox; lines = c.self.inside.lines; failed = true } in
+    let cost = subst (λ (f : Following). c.apply.new.steps ≤ c.args.steps.now + change_cost f.keeper.state.mailbox c.in-Some.change) c.self-2.view_is c.in_err-apply.ensures.cost in
+    let reads = mail_reads _ _ old c.next_arrival.new.self _ c.in-Some.change c.in_ok-change.ensures.rest c.in-Some.is c.in_ok-change.ensures.next c.args.steps.now c.apply.new.steps cost in
+    rw p.1 (subst (λ (f : Following). IfKnown (g.M.Source.left c.args.mbox.now) (g.M.Source.left c.next_arrival.new.mbox) (λ before _.
+    c.apply.new.steps ≤ c.args.steps.now + next_cost f.keeper.state (to_come None f before None).changes)) c.self.view_is reads)
+
+pub returns-clause-cost : goal.returns-clause-cost
+returns-clause-cost g c =
+    let old : Following = record { keeper = c.self.inside.keeper; mbox = c.self.inside.mbox; lines = c.self.inside.lines; failed = true } in
+    let cost = subst (λ (f : Following). c.apply.new.steps ≤ c.args.steps.now + change_cost f.keeper.state.mailbox c.in-Some.change) c.self-2.view_is c.in_ok-apply.ensures.cost in
+    let reads = mail_reads _ _ old c.next_arrival.new.self _ c.in-Some.change c.in_ok-change.ensures.rest c.in-Some.is c.in_ok-change.ensures.next c.args.steps.now c.apply.new.steps cost in
+    subst (λ (f : Following). IfKnown (g.M.Source.left c.args.mbox.now) (g.M.Source.left c.next_arrival.new.mbox) (λ before _.
+    c.apply.new.steps ≤ c.args.steps.now + next_cost f.keeper.state (to_come None f before None).changes)) c.self.view_is reads
+
+pub returns-in_err-change-clause-reads : goal.returns-in_err-change-clause-reads
+returns-in_err-change-clause-reads g c =
+    let p = err_from_is_err_and c.from_residual.result c.from_residual.ensures.1 in
+    rw p.1 (none_reads c.args.self.now.keeper.state.mailbox c.args.steps.now)
+
+pub returns-in_err-apply-clause-reads : goal.returns-in_err-apply-clause-reads
+returns-in_err-apply-clause-reads g c =
+    let p = err_from_is_err_and c.from_residual-in_err-apply.result c.from_residual-in_err-apply.ensures.1 in
+    let keeper = λ (f : Following). f.keeper in
+    let same = ap keeper c.self-2.view_is ∙ ap keeper c.in_ok-change.ensures.rest ∙ ap keeper c.self.view_is in
+    rw p.1 (tried_reads c.args.self.now.keeper c.self-2.inside.keeper c.in-Some.change c.args.steps.now c.apply.new.steps same c.in_err-apply.ensures.cost)
+
+pub returns-clause-reads : goal.returns-clause-reads
+returns-clause-reads g c =
+    let keeper = λ (f : Following). f.keeper in
+    let same = ap keeper c.self-2.view_is ∙ ap keeper c.in_ok-change.ensures.rest ∙ ap keeper c.self.view_is in
+    made_reads c.args.self.now.keeper c.self-2.inside.keeper c.apply.new.self c.in-Some.change c.at_mail-position.result c.args.steps.now c.apply.new.steps same c.in_ok-apply.ensures.state c.in_ok-apply.ensures.cost

@@ -4,7 +4,7 @@ use Rattle.mailbox_model.specs.Mailbox.{Mailbox}
 use Rattle.state_store.specs.Stored.{found_in}
 use Rattle.keeper.specs.Keeping.{Keeping}
 use Rattle.keeper.specs.Opening.{AllFindSame}
-use Rattle.keeper.proofs.Opened.{all_find_same, load_is, on_other, opened_is_kept}
+use Rattle.keeper.proofs.Opened.{all_find_same, load_is, on_other, opened_is_kept, stands_opened}
 use Rattle.keeper.proofs.keeper.Keeper.open.Goals as goal
 
 pub returns-in_err-mailbox-clause-other : goal.returns-in_err-mailbox-clause-other
@@ -14,6 +14,11 @@ returns-in_err-mailbox-clause-other g c =
     let new = c.open.new.shelf in
     on_other c.from_residual-in_err-mailbox.result (WhereKnown old (AllFindSame (H.may_leave new)))
     (all_find_same old (H.seen new) c.in_ok-store.ensures.same c.in_ok-store.field-0.store (H.may_leave new) c.in_ok-store.ensures.stored)
+
+pub returns-clause-opens : goal.returns-clause-opens
+returns-clause-opens g c places is =
+    stands_opened c.args.me.now places (found_in c.in_ok-store.field-0) (c.in_ok-mailbox.mailbox, c.in_ok-mailbox.position) c.in_ok-engine.engine.mailbox
+    (c.in_ok-store.ensures.gives places is) c.in_ok-mailbox.ensures.restores.0 c.in_ok-mailbox.ensures.restores.1 c.in_ok-engine.ensures.mailbox
 
 pub returns-clause-kept : goal.returns-clause-kept
 returns-clause-kept g c =

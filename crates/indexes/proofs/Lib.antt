@@ -1,0 +1,24 @@
+-- Lemmas.
+pub mod Viewed
+pub mod Mails
+pub mod Acts
+pub mod Making
+pub mod PresentAt
+pub mod Spots
+pub mod Grown
+pub mod OneCard
+pub mod Told
+pub mod CardsSoFar
+pub mod Ordered
+pub mod OrderedDates
+pub mod AllKeys
+pub mod Stated
+pub mod RowsSoFar
+pub mod Loads
+pub mod PagedSteps
+pub mod Paged
+pub mod PagedFaults
+pub mod Listed
+pub mod ListedRow
+pub mod ListedContacts
+pub mod Updated

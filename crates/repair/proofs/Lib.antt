@@ -1,0 +1,22 @@
+-- Lemmas.
+pub mod Sets
+pub mod Noted
+pub mod Changed
+pub mod Turns
+pub mod OneCard
+pub mod CardsOfTurns
+pub mod Renaming
+pub mod Draining
+pub mod ChatCards
+pub mod Contents
+pub mod Deadlines
+pub mod OneId
+pub mod Pending
+pub mod SamePlace
+pub mod Between
+pub mod Refolded
+pub mod Places
+pub mod TouchedBy
+pub mod Started
+pub mod Finished
+pub mod Course
