@@ -16,7 +16,7 @@ use Rattle.mailbox_model.specs.Chats.{people}
 use Rattle.mailbox_model.specs.Lists.{Bytes}
 use Rattle.mailbox_model.specs.Rosters.{changes_members, roster_begun, roster_of}
 use Rattle.group_roster.specs.declared.setters.Setters.{Setters}
-use Rattle.group_roster.specs.Setters.{At, AreInOrder, RestsOn, is_before, is_behind, is_kept, is_of_stranger, is_past, joined_before, keeps_name, keeps_timer, newcomers, setters_begun, setters_from, setters_of, stays_with, stays_without}
+use Rattle.group_roster.specs.Setters.{At, AreInOrder, RestsOn, is_before, is_after, is_kept, is_of_stranger, is_past, joined_before, keeps_name, keeps_timer, newcomers, setters_begun, setters_from, setters_of, stays_with, stays_without}
 use Rattle.group_roster.proofs.Joins.{all_at, all_both, joined_by, joined_length, same_length, still_once}
 use Rattle.group_roster.proofs.Says.{cards_of, setter_answers}
 use Rattle.group_roster.proofs.Unchanged.{Stay, first_kept, listed_step, members_said, members_step, name_said, name_step, named_step, self_stays, single_stays, timed_step, timer_said, timer_step}
@@ -25,18 +25,18 @@ use Rattle.group_roster.proofs.Moves.{Same, plain_with, plain_without}
 
 module _ (me : Bytes) (key : ChatKey) (founded : (a : At) → (setters_begun key a).first ≡ Some a.spot) where
   -- no card is after the first one that goes before all others
-  not_first_with : (a : At) (after : List At) → Above a.spot after → is_behind a.spot (setters_of me key after).first ≡ false
+  not_first_with : (a : At) (after : List At) → Above a.spot after → is_after a.spot (setters_of me key after).first ≡ false
   not_first_with a [] above = refl
   not_first_with a (e ∷ more) above =
-      ap (is_behind a.spot) (first_kept key (roster_begun me key e.card) (setters_begun key e) more ∙ founded e) ∙ later_not a.spot e.spot above.0
+      ap (is_after a.spot) (first_kept key (roster_begun me key e.card) (setters_begun key e) more ∙ founded e) ∙ later_not a.spot e.spot above.0
 
   -- nor is the first one itself
-  not_first_without : (a : At) (after : List At) → is_behind a.spot (setters_of me key (a ∷ after)).first ≡ false
+  not_first_without : (a : At) (after : List At) → is_after a.spot (setters_of me key (a ∷ after)).first ≡ false
   not_first_without a after =
-      ap (is_behind a.spot) (first_kept key (roster_begun me key a.card) (setters_begun key a) after ∙ founded a) ∙ not_itself a.spot
+      ap (is_after a.spot) (first_kept key (roster_begun me key a.card) (setters_begun key a) after ∙ founded a) ∙ not_itself a.spot
 
-not_first : (behind rest : Bool) → behind ≡ false → (behind && rest) ≡ true → ⊥
-not_first behind rest e h = false≢true (sym (ap (λ b. b && rest) e) ∙ h)
+not_first : (later rest : Bool) → later ≡ false → (later && rest) ≡ true → ⊥
+not_first later rest e h = false≢true (sym (ap (λ b. b && rest) e) ∙ h)
 
 -- the roster and the setters after the first card and some others
 abbrev so_far : Bytes → ChatKey → At → List At → Roster
@@ -109,25 +109,25 @@ module _ (me g : Bytes) (d : At) (before : List At) (a : At) (after : List At) (
 pub all_group_with : (me g : Bytes) (before : List At) (a : At) (after : List At) → AreInOrder (before ++ a ∷ after)
     → stays_with (Group g) (roster_of me (Group g) (cards_of (before ++ after))) (setters_of me (Group g) (before ++ after)) a ≡ true → Same me (Group g) before a after
 all_group_with me g [] a after order h =
-    absurd (not_first (is_behind a.spot (setters_of me (Group g) after).first) (may_enter_group (roster_of me (Group g) (cards_of after)) (setters_of me (Group g) after) a)
+    absurd (not_first (is_after a.spot (setters_of me (Group g) after).first) (may_enter_group (roster_of me (Group g) (cards_of after)) (setters_of me (Group g) after) a)
     (not_first_with me (Group g) (λ a. refl) a after (are_above [] a after order)) h)
 all_group_with me g (d ∷ before) a after order h =
     let all = d ∷ before ++ after in
     group_enters me g d before a after order
-    (and_parts (is_behind a.spot (setters_of me (Group g) all).first) (may_enter_group (roster_of me (Group g) (cards_of all)) (setters_of me (Group g) all) a) h).1
+    (and_parts (is_after a.spot (setters_of me (Group g) all).first) (may_enter_group (roster_of me (Group g) (cards_of all)) (setters_of me (Group g) all) a) h).1
 
 pub all_group_without : (me g : Bytes) (before : List At) (a : At) (after : List At) → AreInOrder (before ++ a ∷ after)
     → stays_without (Group g) (setters_of me (Group g) (before ++ a ∷ after)) a ≡ true → Same me (Group g) before a after
 all_group_without me g [] a after order h =
     let s = setters_of me (Group g) (a ∷ after) in
-    let parts = and_parts (is_behind a.spot s.first && may_leave_group s a && not (is_kept a.spot s.named)) (not (is_kept a.spot s.timed)) h in
-    let some = and_parts (is_behind a.spot s.first && may_leave_group s a) (not (is_kept a.spot s.named)) parts.0 in
-    absurd (not_first (is_behind a.spot s.first) (may_leave_group s a) (not_first_without me (Group g) (λ a. refl) a after) some.0)
+    let parts = and_parts (is_after a.spot s.first && may_leave_group s a && not (is_kept a.spot s.named)) (not (is_kept a.spot s.timed)) h in
+    let some = and_parts (is_after a.spot s.first && may_leave_group s a) (not (is_kept a.spot s.named)) parts.0 in
+    absurd (not_first (is_after a.spot s.first) (may_leave_group s a) (not_first_without me (Group g) (λ a. refl) a after) some.0)
 all_group_without me g (d ∷ before) a after order h =
     let s = setters_of me (Group g) (d ∷ before ++ a ∷ after) in
-    let parts = and_parts (is_behind a.spot s.first && may_leave_group s a && not (is_kept a.spot s.named)) (not (is_kept a.spot s.timed)) h in
-    let some = and_parts (is_behind a.spot s.first && may_leave_group s a) (not (is_kept a.spot s.named)) parts.0 in
-    let members = and_parts (is_behind a.spot s.first) (may_leave_group s a) some.0 in
+    let parts = and_parts (is_after a.spot s.first && may_leave_group s a && not (is_kept a.spot s.named)) (not (is_kept a.spot s.timed)) h in
+    let some = and_parts (is_after a.spot s.first && may_leave_group s a) (not (is_kept a.spot s.named)) parts.0 in
+    let members = and_parts (is_after a.spot s.first) (may_leave_group s a) some.0 in
     group_leaves me g d before a after order members.1 (not-true (is_kept a.spot s.named) some.1) (not-true (is_kept a.spot s.timed) parts.1)
 
 -- ---- a thread
@@ -183,26 +183,26 @@ pub all_thread_with : (me i : Bytes) (before : List At) (a : At) (after : List A
 all_thread_with me i [] a after order h =
     let s = setters_of me (Thread i) after in
     let known = may_enter_thread (roster_of me (Thread i) (cards_of after)) s a in
-    let parts = and_parts (is_behind a.spot s.first && known) (keeps_timer s a) h in
-    absurd (not_first (is_behind a.spot s.first) known (not_first_with me (Thread i) (λ a. refl) a after (are_above [] a after order)) parts.0)
+    let parts = and_parts (is_after a.spot s.first && known) (keeps_timer s a) h in
+    absurd (not_first (is_after a.spot s.first) known (not_first_with me (Thread i) (λ a. refl) a after (are_above [] a after order)) parts.0)
 all_thread_with me i (d ∷ before) a after order h =
     let s = setters_of me (Thread i) (d ∷ before ++ after) in
     let known = may_enter_thread (roster_of me (Thread i) (cards_of (d ∷ before ++ after))) s a in
-    let parts = and_parts (is_behind a.spot s.first && known) (keeps_timer s a) h in
-    thread_enters me i d before a after order (and_parts (is_behind a.spot s.first) known parts.0).1 parts.1
+    let parts = and_parts (is_after a.spot s.first && known) (keeps_timer s a) h in
+    thread_enters me i d before a after order (and_parts (is_after a.spot s.first) known parts.0).1 parts.1
 
 pub all_thread_without : (me i : Bytes) (before : List At) (a : At) (after : List At) → AreInOrder (before ++ a ∷ after)
     → stays_without (Thread i) (setters_of me (Thread i) (before ++ a ∷ after)) a ≡ true → Same me (Thread i) before a after
 all_thread_without me i [] a after order h =
     let s = setters_of me (Thread i) (a ∷ after) in
     let none = not (list_any (spot_eq a.spot) s.joined) in
-    let parts = and_parts (is_behind a.spot s.first && none) (not (is_kept a.spot s.timed)) h in
-    absurd (not_first (is_behind a.spot s.first) none (not_first_without me (Thread i) (λ a. refl) a after) parts.0)
+    let parts = and_parts (is_after a.spot s.first && none) (not (is_kept a.spot s.timed)) h in
+    absurd (not_first (is_after a.spot s.first) none (not_first_without me (Thread i) (λ a. refl) a after) parts.0)
 all_thread_without me i (d ∷ before) a after order h =
     let s = setters_of me (Thread i) (d ∷ before ++ a ∷ after) in
     let none = not (list_any (spot_eq a.spot) s.joined) in
-    let parts = and_parts (is_behind a.spot s.first && none) (not (is_kept a.spot s.timed)) h in
-    let joined = and_parts (is_behind a.spot s.first) none parts.0 in
+    let parts = and_parts (is_after a.spot s.first && none) (not (is_kept a.spot s.timed)) h in
+    let joined = and_parts (is_after a.spot s.first) none parts.0 in
     thread_leaves me i d before a after order (not-true (list_any (spot_eq a.spot) s.joined) joined.1) (not-true (is_kept a.spot s.timed) parts.1)
 
 -- ---- any chat

@@ -109,8 +109,8 @@ abbrev pub is_before : Spot → Option Spot → Bool
 is_before spot kept = option_map_or (λ other. is_lt (spot_cmp spot other)) kept false
 
 -- it is after the one that is kept
-abbrev pub is_behind : Spot → Option Spot → Bool
-is_behind spot kept = option_map_or (λ other. is_lt (spot_cmp other spot)) kept false
+abbrev pub is_after : Spot → Option Spot → Bool
+is_after spot kept = option_map_or (λ other. is_lt (spot_cmp other spot)) kept false
 
 -- it is after the one that is kept, or none is
 abbrev pub is_past : Spot → Option Spot → Bool
@@ -139,11 +139,11 @@ joined_before r s spot = take (count_by (λ other. is_lt (spot_cmp other spot)) 
 -- put in among the cards of a group, or of a thread, it leaves the roster as it is
 abbrev pub stays_with_in_group : Roster → Setters → At → Bool
 stays_with_in_group r s a =
-    is_behind a.spot s.first && (is_of_stranger r s a || (not (changes_members a.card) && keeps_name s a && keeps_timer s a))
+    is_after a.spot s.first && (is_of_stranger r s a || (not (changes_members a.card) && keeps_name s a && keeps_timer s a))
 
 abbrev pub stays_with_in_thread : Roster → Setters → At → Bool
 stays_with_in_thread r s a =
-    is_behind a.spot s.first && list_all (is_among (joined_before r s a.spot)) (people a.card) && keeps_timer s a
+    is_after a.spot s.first && list_all (is_among (joined_before r s a.spot)) (people a.card) && keeps_timer s a
 
 -- or of any chat
 abbrev pub stays_with : ChatKey → Roster → Setters → At → Bool
@@ -155,12 +155,12 @@ stays_with (Thread i) r s a = stays_with_in_thread r s a
 -- taken out of a group, or of a thread, it leaves the roster as it is
 abbrev pub stays_without_in_group : Setters → At → Bool
 stays_without_in_group s a =
-    is_behind a.spot s.first && (not (changes_members a.card) || is_past a.spot s.listed)
+    is_after a.spot s.first && (not (changes_members a.card) || is_past a.spot s.listed)
     && not (is_kept a.spot s.named) && not (is_kept a.spot s.timed)
 
 abbrev pub stays_without_in_thread : Setters → At → Bool
 stays_without_in_thread s a =
-    is_behind a.spot s.first && not (list_any (spot_eq a.spot) s.joined) && not (is_kept a.spot s.timed)
+    is_after a.spot s.first && not (list_any (spot_eq a.spot) s.joined) && not (is_kept a.spot s.timed)
 
 -- or of any chat that has other cards
 abbrev pub stays_without : ChatKey → Setters → At → Bool

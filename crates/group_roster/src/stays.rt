@@ -7,7 +7,7 @@ ghost use Rattle.card_type.specs.Spots.{spot_cmp, spot_eq};
 ghost use Rattle.mailbox_model.specs.Chats.{people};
 ghost use Rattle.mailbox_model.specs.Lists.{Bytes};
 ghost use Rattle.mailbox_model.specs.declared.roster.Roster.{Roster};
-ghost use Rattle.group_roster.specs.Setters.{At, AreInOrder, RestsOn, at, is_before, is_behind, is_kept, is_of_stranger, is_past, joined_before, keeps_name, keeps_timer, stays_with, stays_with_in_group, stays_with_in_thread, stays_without, stays_without_in_group, stays_without_in_thread};
+ghost use Rattle.group_roster.specs.Setters.{At, AreInOrder, RestsOn, at, is_before, is_after, is_kept, is_of_stranger, is_past, joined_before, keeps_name, keeps_timer, stays_with, stays_with_in_group, stays_with_in_thread, stays_without, stays_without_in_group, stays_without_in_thread};
 
 use crate::roster::{changes_members, changes_name};
 use crate::setters::Setters;
@@ -27,8 +27,8 @@ fn is_before(spot: &Spot, kept: &Option<Spot>) -> bool
 }
 
 /// Whether the spot is after the one that is kept.
-fn is_behind(spot: &Spot, kept: &Option<Spot>) -> bool
-    ensures { result ≡ is_behind spot.now kept.now }
+fn is_after(spot: &Spot, kept: &Option<Spot>) -> bool
+    ensures { result ≡ is_after spot.now kept.now }
 {
     match kept {
         Some(other) => other.cmp(spot).is_lt(),
@@ -50,7 +50,7 @@ fn is_kept(spot: &Spot, kept: &Option<Spot>) -> bool
 fn is_past(spot: &Spot, kept: &Option<Spot>) -> bool
     ensures { result ≡ is_past spot.now kept.now }
 {
-    kept.is_none() || is_behind(spot, kept)
+    kept.is_none() || is_after(spot, kept)
 }
 
 /// Whether a card that is put in sets no timer, or a later card does.
@@ -130,7 +130,7 @@ fn people_are_among(known: &[Addr], card: &Card) -> bool
 fn stays_with_in_group(roster: &Roster, setters: &Setters, spot: &Spot, card: &Card) -> bool
     ensures { result ≡ stays_with_in_group roster.now setters.now (at spot.now card.now) }
 {
-    is_behind(spot, &setters.first)
+    is_after(spot, &setters.first)
         && (is_of_stranger(roster, setters, spot, card)
             || (!changes_members(card)
                 && keeps_name(setters, spot, card)
@@ -141,7 +141,7 @@ fn stays_with_in_group(roster: &Roster, setters: &Setters, spot: &Spot, card: &C
 fn stays_with_in_thread(roster: &Roster, setters: &Setters, spot: &Spot, card: &Card) -> bool
     ensures { result ≡ stays_with_in_thread roster.now setters.now (at spot.now card.now) }
 {
-    is_behind(spot, &setters.first)
+    is_after(spot, &setters.first)
         && people_are_among(joined_before(roster, setters, spot), card)
         && keeps_timer(setters, spot, card)
 }
@@ -185,7 +185,7 @@ pub fn stays_with(
 fn stays_without_in_group(setters: &Setters, spot: &Spot, card: &Card) -> bool
     ensures { result ≡ stays_without_in_group setters.now (at spot.now card.now) }
 {
-    is_behind(spot, &setters.first)
+    is_after(spot, &setters.first)
         && (!changes_members(card) || is_past(spot, &setters.listed))
         && !is_kept(spot, &setters.named)
         && !is_kept(spot, &setters.timed)
@@ -202,7 +202,7 @@ fn has_joiner(setters: &Setters, spot: &Spot) -> bool
 fn stays_without_in_thread(setters: &Setters, spot: &Spot, card: &Card) -> bool
     ensures { result ≡ stays_without_in_thread setters.now (at spot.now card.now) }
 {
-    is_behind(spot, &setters.first) && !has_joiner(setters, spot) && !is_kept(spot, &setters.timed)
+    is_after(spot, &setters.first) && !has_joiner(setters, spot) && !is_kept(spot, &setters.timed)
 }
 
 /// Whether a card that is taken out of a chat leaves the roster as it is, where others are left.

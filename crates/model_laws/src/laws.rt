@@ -130,7 +130,7 @@ pub fn only_deadlines_change_with_time()
 /// - `list`: the lists of chats are equal byte by byte, where the mails that could not be read are alike.
 /// - `contacts`, `updates`, `infos`: so are the contacts, and the updates of each app, all or those that have an info.
 /// - `chats`: and each page is equal but for the numbers of its mails.
-/// - `numbers`: these are printed behind the `#` of a row, and nowhere else: what follows them is that of a row whose number
+/// - `numbers`: these are printed after the `#` of a row, and nowhere else: what follows them is that of a row whose number
 ///   is 0, which begins with `#0`.
 pub fn order_of_arrival_is_not_seen()
     ensures brought { (me : Bytes) (first second : List Change) → BringSameCards me first second
