@@ -127,21 +127,20 @@ fn take_settled(
     unsettled: &KeySet,
     key: &ChatKey,
     spot: &Spot,
-    card: &Card,
 ) -> Result<bool, Memory>
     ensures key { OnOk result (state.new.key ≡ state.old.key) }
     ensures settled { IfOk result (λ taken. taken ≡ true → has_key unsettled.now key.now ≡ false) }
     ensures when { IfOk result (λ taken. IsStrictlySortedBy spot_cmp state.old.spots
-        → taken ≡ (not (has_key unsettled.now key.now) && lets_go state.old spot.now card.now)) }
-    ensures taken { IfOk result (λ taken. taken ≡ true → (me : Bytes) (before after : List Shown) (mark : Option Mark) → AreFew (before ++ after)
-        → AreInOrder (before ++ shown spot.now card.now mark ∷ after) → StandsFor me (before ++ shown spot.now card.now mark ∷ after) state.old
+        → taken ≡ (not (has_key unsettled.now key.now) && lets_go state.old spot.now)) }
+    ensures taken { IfOk result (λ taken. taken ≡ true → (me : Bytes) (before after : List Shown) (card : Card) (mark : Option Mark) → AreFew (before ++ after)
+        → AreInOrder (before ++ shown spot.now card mark ∷ after) → StandsFor me (before ++ shown spot.now card mark ∷ after) state.old
         → StandsFor me (before ++ after) state.new × (has_some (before ++ after) ≡ true)) }
     ensures left { IfOk result (λ taken. taken ≡ false → state.new ≡ state.old) }
 {
     if unsettled.has(key) {
         return Ok(false);
     }
-    state.take_out(spot, card)
+    state.take_out(spot)
 }
 
 /// Lets a card of a chat go, which becomes unsettled where its state can't tell the roster without the card.
@@ -150,19 +149,18 @@ fn take_from(
     unsettled: &mut KeySet,
     key: &ChatKey,
     spot: &Spot,
-    card: &Card,
 ) -> Result<(), Memory>
     ensures key { OnOk result (state.new.key ≡ state.old.key) }
-    ensures follows { OnOk result ((me : Bytes) (before after : List Shown) (mark : Option Mark) → AreFew (before ++ after)
-        → AreInOrder (before ++ shown spot.now card.now mark ∷ after)
-        → Follows me (has_key unsettled.old key.now) (before ++ shown spot.now card.now mark ∷ after) state.old
+    ensures follows { OnOk result ((me : Bytes) (before after : List Shown) (card : Card) (mark : Option Mark) → AreFew (before ++ after)
+        → AreInOrder (before ++ shown spot.now card mark ∷ after)
+        → Follows me (has_key unsettled.old key.now) (before ++ shown spot.now card mark ∷ after) state.old
         → Follows me (has_key unsettled.new key.now) (before ++ after) state.new
         × (has_key unsettled.new key.now ≡ false → has_some (before ++ after) ≡ true)) }
     ensures notes { OnOk result (MayUnsettle key.now unsettled.old unsettled.new) }
     ensures when { OnOk result (IsStrictlySortedBy spot_cmp state.old.spots
-        → has_key unsettled.new key.now ≡ (has_key unsettled.old key.now || not (lets_go state.old spot.now card.now))) }
+        → has_key unsettled.new key.now ≡ (has_key unsettled.old key.now || not (lets_go state.old spot.now))) }
 {
-    if take_settled(state, unsettled, key, spot, card)? {
+    if take_settled(state, unsettled, key, spot)? {
         return Ok(());
     }
     state.displace(spot)?;
@@ -184,21 +182,20 @@ pub fn take(
     unsettled: &mut KeySet,
     key: &ChatKey,
     spot: &Spot,
-    card: &Card,
 ) -> Result<(), Memory>
-    ensures states { OnOk result ((me : Bytes) (family : Family) (mark : Option Mark) → IsSmall (family key.now)
-        → family key.now spot.now.id ≡ Some (shown spot.now card.now mark)
+    ensures states { OnOk result ((me : Bytes) (family : Family) (card : Card) (mark : Option Mark) → IsSmall (family key.now)
+        → family key.now spot.now.id ≡ Some (shown spot.now card mark)
         → AreStatesOf me (has_key unsettled.old) family chats.old
         → AreStatesOf me (has_key unsettled.new) (with_card key.now spot.now.id None family) chats.new) }
     ensures others { OnOk result ((other : ChatKey) → key_eq key.now other ≡ false → map_of.get chats.new other ≡ map_of.get chats.old other) }
     ensures notes { OnOk result (MayUnsettle key.now unsettled.old unsettled.new) }
     ensures when { OnOk result ((state : ChatState) → map_of.get chats.old key.now ≡ Some state → IsStrictlySortedBy spot_cmp state.spots
-        → has_key unsettled.new key.now ≡ (has_key unsettled.old key.now || not (lets_go state spot.now card.now))) }
+        → has_key unsettled.new key.now ≡ (has_key unsettled.old key.now || not (lets_go state spot.now))) }
 {
     let Some(mut state) = chats.remove(key) else {
         return Ok(());
     };
-    take_from(&mut state, unsettled, key, spot, card)?;
+    take_from(&mut state, unsettled, key, spot)?;
     let _none = chats.insert(key.copy()?, state)?;
     Ok(())
 }

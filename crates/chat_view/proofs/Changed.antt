@@ -13,19 +13,15 @@ use Rattle.card_type.proofs.Orders.{spots_total}
 use Rattle.mailbox_model.specs.declared.row.Mark.{Mark}
 use Rattle.mailbox_model.specs.Lists.{Bytes}
 use Rattle.mailbox_model.specs.States.{Shown}
-use Rattle.group_roster.specs.Setters.{RestsOn, at, stays_with, stays_without}
+use Rattle.group_roster.specs.Setters.{RestsOn, at, setters_put, setters_taken, stays_with, stays_without}
 use Rattle.group_roster.specs.Setters.{AreInOrder as AreAtInOrder}
 use Rattle.group_roster.proofs.Founded.{rests_with, rests_without}
+use Rattle.group_roster.proofs.Seams.{insert_seam, remove_seam}
 use Rattle.chat_view.specs.declared.state.ChatState.{ChatState}
 use Rattle.chat_view.specs.Changes.{AreFew, AreInOrder, marked_at, with_at, without_at}
 use Rattle.chat_view.specs.Standing.{IsMarkedFor, StandsFor, placed_at, shown}
-use Rattle.chat_view.proofs.Placed.{index_of, insert_seam, none_tie, place_of, remove_seam, set_seam, sorted_without, partition, ties_there}
-use Rattle.chat_view.proofs.Told.{marked_from, rests_on, settled_marked, spots_same, stands_from}
-
--- what two clauses say of one answer
-pub both_clauses : {T E : Type 0} (r : Result T E) (P Q R : T → Type 0) → ((x : T) → P x → Q x → R x) → IfOk r P → IfOk r Q → IfOk r R
-both_clauses (Ok x) P Q R f p q = f x p q
-both_clauses (Err e) P Q R f p q = tt
+use Rattle.chat_view.proofs.Placed.{index_of, none_tie, place_of, set_seam, sorted_without, partition, ties_there}
+use Rattle.chat_view.proofs.Told.{kept_marks, marked_from, rests_on, settled_marked, spots_same, stands_from}
 
 -- what holds of any answer
 pub on_ok_each : {T E P : Type 0} {Q : T → Type 0} (r : Result T E) → (P → (x : T) → Q x) → OnOk r P → IfOk r Q
@@ -113,12 +109,13 @@ module _ (before : List Shown) (spot : Spot) (card : Card) (mark : Option Mark) 
         settled_marked (before ++ c ∷ after) (insert s.spots i spot) (insert s.marks i mark) s spots marks
 
     pub put_stands : (me : Bytes) → StandsFor me (before ++ after) s → AreInOrder (before ++ c ∷ after) → stays_with s.key s.roster s.setters (at spot card) ≡ true
-        → StandsFor me (before ++ c ∷ after) (with_at i spot mark s)
+        → StandsFor me (before ++ c ∷ after) (with_at i spot mark (record s { setters = setters_put s.key s.setters (at spot card) }))
     put_stands me is order stays =
         let rests = subst (λ ps. RestsOn me s.key ps s.roster s.setters) placed_without (rests_on me (before ++ after) s is) in
         let rests_now = rests_with me s.key (placed_at before) (at spot card) (placed_at after) s.roster s.setters (order_placed order) rests stays in
-        stands_from me (before ++ c ∷ after) (with_at i spot mark s) (put_marked (marked_from me (before ++ after) s is))
-        (subst (λ ps. RestsOn me s.key ps s.roster s.setters) (sym placed_with) rests_now)
+        let setters = setters_put s.key s.setters (at spot card) in
+        stands_from me (before ++ c ∷ after) (with_at i spot mark (record s { setters = setters })) (kept_marks (before ++ c ∷ after) (with_at i spot mark s) setters (put_marked (marked_from me (before ++ after) s is)))
+        (subst (λ ps. RestsOn me s.key ps s.roster setters) (sym placed_with) rests_now)
 
   -- ---- the place of a card that is there
 
@@ -157,14 +154,16 @@ module _ (before : List Shown) (spot : Spot) (card : Card) (mark : Option Mark) 
       rests : RestsOn me s.key (placed_at before ++ at spot card ∷ placed_at after) s.roster s.setters
       rests = subst (λ ps. RestsOn me s.key ps s.roster s.setters) placed_with (rests_on me (before ++ c ∷ after) s is)
 
-      pub taken_stands : AreInOrder (before ++ c ∷ after) → 1 < length s.spots → stays_without s.key s.setters (at spot card) ≡ true → StandsFor me (before ++ after) (without_at i s)
+      pub taken_stands : AreInOrder (before ++ c ∷ after) → 1 < length s.spots → stays_without s.key s.setters spot ≡ true
+          → StandsFor me (before ++ after) (without_at i (record s { setters = setters_taken s.key s.setters spot }))
       taken_stands order more stays =
           let count = ap (λ t. length t.spots) is ∙ length-map (before ++ c ∷ after) (λ d. d.spot) ∙ length-append before (c ∷ after) in
           let left : 0 < length (placed_at before ++ placed_at after) =
           omega (arith, more, count, length-append (placed_at before) (placed_at after), length-map before (λ d. at d.spot d.card), length-map after (λ d. at d.spot d.card)) in
           let rests_now = rests_without me s.key (placed_at before) (at spot card) (placed_at after) s.roster s.setters (order_placed order) left rests stays in
-          stands_from me (before ++ after) (without_at i s) (taken_marked (marked_from me (before ++ c ∷ after) s is))
-          (subst (λ ps. RestsOn me s.key ps s.roster s.setters) (sym placed_without) rests_now)
+          let setters = setters_taken s.key s.setters spot in
+          stands_from me (before ++ after) (without_at i (record s { setters = setters })) (kept_marks (before ++ after) (without_at i s) setters (taken_marked (marked_from me (before ++ c ∷ after) s is)))
+          (subst (λ ps. RestsOn me s.key ps s.roster setters) (sym placed_without) rests_now)
 
       pub marked_stands : (other : Option Mark) → StandsFor me (before ++ shown spot card other ∷ after) (marked_at i other s)
       marked_stands other =

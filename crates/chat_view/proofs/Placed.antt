@@ -1,13 +1,13 @@
 -- Where a search in the spots of a chat ends, and what an insert, a removal or another value there does.
-use Rattle.std.proofs.Common.{◌≡◌, refl, sym, ap, ◌∙◌, subst, ℕ, zero, suc, ◌<◌, ◌≤◌, Bool, true, false, ◌||◌, Err, List, [], ◌∷◌, ◌++◌, length, drop, arith}
+use Rattle.std.proofs.Common.{◌≡◌, refl, sym, ap, ◌∙◌, subst, ℕ, zero, suc, ◌<◌, ◌≤◌, Bool, true, false, ◌||◌, Err, List, [], ◌∷◌, ◌++◌, length, arith}
 use Rattle.std.specs.Prelude.{slice_set}
-use Rattle.std.specs.List.{AllByRecursion, HoldsAt, insert, list_all, list_any, remove}
+use Rattle.std.specs.List.{AllByRecursion, HoldsAt, list_all, list_any}
 use Rattle.std.specs.List.Sorted.{IsBinarySearchResult, IsPartitionPoint, IsStrictlySortedBy}
 use Rattle.std.specs.declared.cmp.Ordering.{Ordering}
 use Rattle.std.specs.declared.cmp.Ordering.TheVariants.{Less, Equal, Greater}
 use Rattle.std.specs.Ordering.{eq_by_cmp, is_eq, is_lt, ordering_reverse}
 use Rattle.std.specs.Cmp.{IsTotalOrder}
-use Rattle.std.proofs.Math.Seq.{drop-append_seam, take-append_seam, set-append_seam}
+use Rattle.std.proofs.Math.Seq.{set-append_seam}
 use Rattle.std.proofs.lemmas.Bool.{false≢true}
 use Rattle.std.proofs.lemmas.Cmp.{tied_itself}
 use Rattle.std.proofs.lemmas.List.Folds.{list_all_at}
@@ -17,18 +17,6 @@ use Rattle.lists.proofs.OneMore.{none_among}
 -- ---- edits at the seam of two lists
 
 module _ {X : Type 0} (xs ys : List X) where
-  pub insert_seam : (i : ℕ) (x : X) → i ≡ length xs → insert (xs ++ ys) i x ≡ xs ++ x ∷ ys
-  insert_seam i x at =
-      ap (λ k. insert (xs ++ ys) k x) at
-      ∙ (λ k. take-append_seam xs ys k ++ x ∷ drop-append_seam xs ys k)
-
-  pub remove_seam : (i : ℕ) (x : X) → i ≡ length xs → remove (xs ++ x ∷ ys) i ≡ xs ++ ys
-  remove_seam i x at = ap (remove (xs ++ x ∷ ys)) at ∙ ap (λ front. front ++ drop (suc (length xs)) (xs ++ x ∷ ys)) (take-append_seam xs (x ∷ ys)) ∙ ap (λ back. xs ++ back) (past xs)
-    where
-      past : (zs : List X) → drop (suc (length zs)) (zs ++ x ∷ ys) ≡ ys
-      past [] = refl
-      past (z ∷ zs) = past zs
-
   pub set_seam : (i : ℕ) (x y : X) → i ≡ length xs → slice_set (xs ++ x ∷ ys) i y ≡ xs ++ y ∷ ys
   set_seam i x y at = ap (λ k. slice_set (xs ++ x ∷ ys) k y) at ∙ set-append_seam xs x ys y
 

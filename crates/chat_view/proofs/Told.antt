@@ -11,6 +11,7 @@ use Rattle.mailbox_model.specs.Lists.{Bytes, last_of}
 use Rattle.mailbox_model.specs.Rosters.{roster_of}
 use Rattle.mailbox_model.specs.Rows.{is_new}
 use Rattle.mailbox_model.specs.States.{Shown, last_spot, fresh_among}
+use Rattle.group_roster.specs.declared.setters.Setters.{Setters}
 use Rattle.group_roster.specs.Setters.{RestsOn}
 use Rattle.chat_view.specs.declared.state.ChatState.{ChatState}
 use Rattle.chat_view.specs.Changes.{count_new, last_shown, settled}
@@ -118,6 +119,10 @@ pub stands_from : (me : Bytes) (cards : List Shown) (s : ChatState) → IsMarked
 stands_from me cards s is rests =
     let roster = rests.roster ∙ ap (roster_of me s.key) (cards_same cards) in
     λ k. record { key = s.key; spots = is.spots k; marks = is.marks k; roster = roster k; setters = rests.setters k; last = is.last k; fresh = is.fresh k }
+
+-- whatever its setters
+pub kept_marks : (cards : List Shown) (s : ChatState) (setters : Setters) → IsMarkedFor cards s → IsMarkedFor cards (record s { setters = setters })
+kept_marks cards s setters is = record { spots = is.spots; marks = is.marks; last = is.last; fresh = is.fresh }
 
 -- a state whose spots and marks are those of some cards, and the rest told of them
 pub settled_marked : (cards : List Shown) (spots : List Spot) (marks : List (Option Mark)) (s : ChatState)

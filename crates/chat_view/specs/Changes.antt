@@ -31,8 +31,8 @@ takes_in s spot card =
     && (list_all (λ other. is_lt (spot_cmp other spot)) s.spots || stays_with s.key s.roster s.setters (at spot card))
 
 -- the state lets a card go: it is not the only one, and such that the roster stays as it is
-abbrev pub lets_go : ChatState → Spot → Card → Bool
-lets_go s spot card = has_spot s spot && nat_lt 1 (length s.spots) && stays_without s.key s.setters (at spot card)
+abbrev pub lets_go : ChatState → Spot → Bool
+lets_go s spot = has_spot s spot && nat_lt 1 (length s.spots) && stays_without s.key s.setters spot
 
 -- ---- what is told of the marks
 

@@ -1,5 +1,5 @@
 -- For which cards the state of a chat stands.
-use Rattle.std.specs.Prelude.{◌≡◌, List, map, Option}
+use Rattle.std.specs.Prelude.{◌≡◌, ℕ, List, map, Option, option_map}
 use Rattle.card_type.specs.declared.card.Card.{Card}
 use Rattle.card_type.specs.declared.spot.Spot.{Spot}
 use Rattle.mailbox_model.specs.declared.row.Mark.{Mark}
@@ -30,6 +30,10 @@ state_of me key cards =
 -- a state stands for cards where it is the state of them, under its own key
 abbrev pub StandsFor : Bytes → List Shown → ChatState → Type 0
 StandsFor me cards s = s ≡ state_of me s.key cards
+
+-- the date of the last shown row
+abbrev pub last_date : ChatState → Option ℕ
+last_date state = option_map (λ spot. spot.date) state.last
 
 -- all of a state but its roster and its setters is told of these cards
 pub record IsMarkedFor (cards : List Shown) (s : ChatState) : Type 0 where

@@ -1,6 +1,6 @@
 //! How the state of a chat follows a card that comes, goes or is marked anew, and reads no other card.
 ghost use Rattle.std.specs.Prelude.{◌≡◌, ◌<◌, ◌&&◌, [], ◌∷◌, ◌++◌, List, Option, true, false, length, nat_lt, slice_get, IfOk, OnOk};
-ghost use Rattle.group_roster.specs.Setters.{at, stays_with, stays_without};
+ghost use Rattle.group_roster.specs.Setters.{at, setters_put, setters_taken, stays_with, stays_without};
 ghost use Rattle.std.specs.List.Sorted.{IsStrictlySortedBy};
 ghost use Rattle.std.specs.Option.{option_and_then};
 ghost use Rattle.card_type.specs.Spots.{spot_cmp};
@@ -13,7 +13,7 @@ ghost use Rattle.chat_view.specs.Standing.{IsMarkedFor, StandsFor, shown};
 
 use crate::state::ChatState;
 use card_type::{Card, Spot};
-use group_roster::{stays_with, stays_without};
+use group_roster::{put_in, take_out};
 use kit::{Addr, Memory};
 use mailbox_model::Mark;
 use std::alloc::Global;
@@ -95,6 +95,7 @@ impl ChatState {
     /// Puts a card in at an index of the spots, where the roster stays as it is.
     fn put_among(
         &mut self,
+        alloc: Global,
         index: usize,
         spot: &Spot,
         card: &Card,
@@ -102,10 +103,18 @@ impl ChatState {
     ) -> Result<bool, Memory>
         ensures key { OnOk result (self.new.key ≡ self.old.key) }
         ensures when { IfOk result (λ taken. taken ≡ stays_with self.old.key self.old.roster self.old.setters (at spot.now card.now)) }
-        ensures taken { IfOk result (λ taken. taken ≡ true → length self.old.marks < 4294967295 → self.new ≡ with_at index spot.now mark self.old) }
+        ensures taken { IfOk result (λ taken. taken ≡ true → length self.old.marks < 4294967295
+            → self.new ≡ with_at index spot.now mark (record self.old { setters = setters_put self.old.key self.old.setters (at spot.now card.now) })) }
         ensures left { IfOk result (λ taken. taken ≡ false → self.new ≡ self.old) }
     {
-        if !stays_with(&self.key, &self.roster, &self.setters, spot, card) {
+        if !put_in(
+            alloc,
+            &mut self.setters,
+            &self.key,
+            &self.roster,
+            spot,
+            card,
+        )? {
             return Ok(false);
         }
         self.insert(index, spot, mark)?;
@@ -113,13 +122,14 @@ impl ChatState {
     }
 
     /// Takes the card at an index of the spots out, where others are left and the roster stays as it is.
-    fn take_at(&mut self, index: usize, spot: &Spot, card: &Card) -> Result<bool, Memory>
+    fn take_at(&mut self, index: usize, spot: &Spot) -> Result<bool, Memory>
         ensures key { OnOk result (self.new.key ≡ self.old.key) }
-        ensures when { IfOk result (λ taken. taken ≡ (nat_lt 1 (length self.old.spots) && stays_without self.old.key self.old.setters (at spot.now card.now))) }
-        ensures taken { IfOk result (λ taken. taken ≡ true → length self.old.marks < 4294967296 → self.new ≡ without_at index self.old) }
+        ensures when { IfOk result (λ taken. taken ≡ (nat_lt 1 (length self.old.spots) && stays_without self.old.key self.old.setters spot.now)) }
+        ensures taken { IfOk result (λ taken. taken ≡ true → length self.old.marks < 4294967296
+            → self.new ≡ without_at index (record self.old { setters = setters_taken self.old.key self.old.setters spot.now })) }
         ensures left { IfOk result (λ taken. taken ≡ false → self.new ≡ self.old) }
     {
-        if self.spots.len() < 2 || !stays_without(&self.key, &self.setters, spot, card) {
+        if self.spots.len() < 2 || !take_out(&mut self.setters, &self.key, spot) {
             return Ok(false);
         }
         self.remove(index)?;
@@ -149,14 +159,14 @@ impl ChatState {
         ensures stands { OnOk result ((cards : List Shown) → AreFew cards → StandsFor me.now cards self.old
             → StandsFor me.now (cards ++ shown spot.now card.now mark ∷ []) self.new) }
     {
-        self.push(alloc, spot, card, mark, me)?;
+        self.add(alloc, spot, card, mark, me)?;
         Ok(true)
     }
 
     /// Takes a card in at its place in mail order, with the mark of its row, and `None` where it is not shown; the own
     /// address is that with which the state was begun. It reads no other card: a card that goes after all others is added,
     /// and any other is taken in where the setters say that the roster stays as it is. Takes memory, and time in
-    /// proportion to the number of spots; `Err` only when memory runs out, and then the state may only be dropped.
+    /// proportion to the number of spots and members; `Err` only when memory runs out, and then the state may only be dropped.
     ///
     /// - `key`: the key stays.
     /// - `when`: where the spots are in mail order, the answer is yes exactly where `takes_in` in `specs/Changes.antt` says
@@ -182,7 +192,7 @@ impl ChatState {
             Ok(_) => Ok(false),
             Err(index) => {
                 if index < self.spots.len() {
-                    self.put_among(index, spot, card, mark)
+                    self.put_among(alloc, index, spot, card, mark)
                 } else {
                     self.put_last(alloc, spot, card, mark, me)
                 }
@@ -199,16 +209,16 @@ impl ChatState {
     ///   so.
     /// - `taken`: after yes a state that stood for this card and the others stands for the others.
     /// - `left`: after no the state is as before: it can't tell what the roster is without the card.
-    pub fn take_out(&mut self, spot: &Spot, card: &Card) -> Result<bool, Memory>
+    pub fn take_out(&mut self, spot: &Spot) -> Result<bool, Memory>
         ensures key { OnOk result (self.new.key ≡ self.old.key) }
-        ensures when { IfOk result (λ taken. IsStrictlySortedBy spot_cmp self.old.spots → taken ≡ lets_go self.old spot.now card.now) }
-        ensures taken { IfOk result (λ taken. taken ≡ true → (me : Bytes) (before after : List Shown) (mark : Option Mark) → AreFew (before ++ after)
-            → AreInOrder (before ++ shown spot.now card.now mark ∷ after) → StandsFor me (before ++ shown spot.now card.now mark ∷ after) self.old
+        ensures when { IfOk result (λ taken. IsStrictlySortedBy spot_cmp self.old.spots → taken ≡ lets_go self.old spot.now) }
+        ensures taken { IfOk result (λ taken. taken ≡ true → (me : Bytes) (before after : List Shown) (card : Card) (mark : Option Mark) → AreFew (before ++ after)
+            → AreInOrder (before ++ shown spot.now card mark ∷ after) → StandsFor me (before ++ shown spot.now card mark ∷ after) self.old
             → StandsFor me (before ++ after) self.new) }
         ensures left { IfOk result (λ taken. taken ≡ false → self.new ≡ self.old) }
     {
         match self.spots.as_slice().binary_search(spot) {
-            Ok(index) => self.take_at(index, spot, card),
+            Ok(index) => self.take_at(index, spot),
             Err(_) => Ok(false),
         }
     }

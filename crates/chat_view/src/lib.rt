@@ -5,7 +5,6 @@ mod changes;
 mod laws;
 mod list;
 mod maker;
-mod series;
 mod state;
 mod text;
 
@@ -13,6 +12,5 @@ pub use laws::pages_are_made_of_parts;
 pub use list::chat_row;
 pub use mailbox_model::{ChatPage, ListRow, Mark, Row, UpdateRow};
 pub use maker::RowMaker;
-pub use series::Series;
 pub use state::ChatState;
 pub use text::{body_of, page_name};

@@ -4,11 +4,10 @@ ghost use Rattle.std.specs.Option.{option_map_or};
 ghost use Rattle.mailbox_model.specs.Rows.{is_new};
 ghost use Rattle.mailbox_model.specs.States.{Shown};
 ghost use Rattle.chat_view.specs.Changes.{AreFew};
-ghost use Rattle.chat_view.specs.Standing.{StandsFor, shown};
+ghost use Rattle.chat_view.specs.Standing.{StandsFor, last_date, shown};
 
-use crate::series::Series;
 use card_type::{Card, ChatKey, Spot};
-use group_roster::{Setters, add_at, begin};
+use group_roster::{Series, Setters, add_at, begin};
 use kit::{Addr, Memory};
 use mailbox_model::{Mark, Roster};
 use std::alloc::Global;
@@ -76,30 +75,24 @@ impl ChatState {
         })
     }
 
+    /// The date of the last row that is shown, in seconds since 1970-01-01 00:00:00 UTC; `None` where none is. Takes no
+    /// memory.
+    pub fn last_date(&self) -> Option<u64>
+        ensures { result ≡ last_date self.now }
+    {
+        match &self.last {
+            Some(spot) => Some(spot.date),
+            None => None,
+        }
+    }
+
     /// Adds the next card of the chat in mail order, with the mark of its row, and `None` where it is not shown; the own
     /// address is that with which the state was begun. Takes memory; `Err` only when it runs out, and then the state may
     /// only be dropped.
     ///
     /// - `key`: the key stays.
-    /// - `stands`: a state that stands for cards stands for them and this one.
+    /// - `stands`: a state that stands for cards, so few that a `u32` counts them and this one, stands for them and this one.
     pub fn add(
-        &mut self,
-        alloc: Global,
-        spot: &Spot,
-        card: &Card,
-        mark: Option<Mark>,
-        me: &Addr,
-    ) -> Result<(), Memory>
-        requires { length self.old.spots < 65536 }
-        ensures key { OnOk result (self.new.key ≡ self.old.key) }
-        ensures stands { OnOk result ((cards : List Shown) → StandsFor me.now cards self.old
-            → StandsFor me.now (cards ++ shown spot.now card.now mark ∷ []) self.new) }
-    {
-        self.push(alloc, spot, card, mark, me)
-    }
-
-    /// Adds the next card of the chat, where a `u32` counts its cards.
-    pub(crate) fn push(
         &mut self,
         alloc: Global,
         spot: &Spot,

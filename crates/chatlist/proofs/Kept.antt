@@ -23,7 +23,7 @@ use Rattle.lists.specs.Sorted.{insert_by}
 use Rattle.lists.proofs.DistinctLaws.{IsDistinct-filter}
 use Rattle.lists.proofs.Inserts.{agree, None_of, none_filtered, filter_none, Placed, Rising-insert_by, IsDistinct-insert_by}
 use Rattle.lists.proofs.Maps.{get_is, insert_is, remove_is}
-use Rattle.lists.proofs.Rising.{Above, Rising, Rising-filter, apart, below_of, never_back, second_Equal, sorted_from}
+use Rattle.lists.proofs.Rising.{Above, Rising, Rising-filter, apart, below_of, insert_by-above, never_back, second_Equal, sorted_from}
 use Rattle.mailbox_model.specs.ChatList.{Dated, dated_cmp, latest_cmp}
 use Rattle.mailbox_model.proofs.ListLaws.{key_same, key_self, key_turn}
 use Rattle.chatlist.specs.Places.{without_key, with_place}
@@ -109,16 +109,47 @@ removed key date (e ∷ ds) (suc i) h rises once before after =
         let dates : e.1 ≡ date = cc in
         subst (λ d. is_lt (dated_cmp e d) ≡ false) {x = e} {y = (key, date)} (λ i. (keys i, dates i)) (ap is_lt (tied_itself dates_total e))
 
+-- ---- a chat that is at its place
+
+above_all : (d : Dated) (es : List Dated) → AllByRecursion (λ e. dated_cmp d e ≡ Less) es → Above dated_cmp d es
+above_all d [] a = tt
+above_all d (e ∷ es) a = (ap is_lt a.0, above_all d es a.1)
+
+pub kept_place : (key : ChatKey) (date : Option ℕ) (ds : List Dated) → lookup (is_at (key_cmp key)) ds ≡ Some date
+    → IsStrictlySortedBy dated_cmp ds → IsDistinct same_key ds → with_place key date ds ≡ ds
+unfolding IsStrictlySortedBy IsDistinct
+kept_place key date [] h rises once = cc
+kept_place key date (e ∷ ds) h rises once =
+    elim (is_at (key_cmp key) e.0) as (λ b. is_at (key_cmp key) e.0 ≡ b → cond b (Some e.1) (lookup (is_at (key_cmp key)) ds) ≡ Some date → with_place key date (e ∷ ds) ≡ e ∷ ds) [
+      | true ↦ λ same k. here same k
+      | false ↦ λ other k. later other k (kept_place key date ds k rises.1 once.1)
+    ] refl h
+  where
+    here : is_at (key_cmp key) e.0 ≡ true → Some e.1 ≡ Some date → with_place key date (e ∷ ds) ≡ e ∷ ds
+    here same k =
+        let keys : e.0 ≡ key = sym (one_key key e.0 same) in
+        let dates : e.1 ≡ date = cc in
+        let is : e ≡ (key, date) = λ i. (keys i, dates i) in
+        let others : None_of (of_key key) ds = subst (λ k. None_of (of_key k) ds) keys once.0 in
+        let left : without_key key (e ∷ ds) ≡ ds = rw (sym (tied key e.0) ∙ same) (none_filtered (of_key key) ds others) in
+        let above : Above dated_cmp (key, date) ds = subst (λ d. Above dated_cmp d ds) is (above_all e ds rises.0) in
+        ap (insert_by dated_cmp (key, date)) left ∙ insert_by-above dated_cmp (key, date) ds above ∙ ap (λ d. d ∷ ds) (sym is)
+
+    later : is_at (key_cmp key) e.0 ≡ false → lookup (is_at (key_cmp key)) ds ≡ Some date → with_place key date ds ≡ ds → with_place key date (e ∷ ds) ≡ e ∷ ds
+    later other k rest =
+        let before : dated_cmp e (key, date) ≡ Less = found (λ d. dated_cmp e d ≡ Less) key date ds k rises.0 in
+        let not_before = never_back dated_cmp dates_total e (key, date) (ap is_lt before) in
+        let kept : without_key key (e ∷ ds) ≡ e ∷ without_key key ds = rw (sym (tied key e.0) ∙ other) refl in
+        ap (insert_by dated_cmp (key, date)) kept
+        ∙ ap (λ b. if b then (key, date) ∷ e ∷ without_key key ds else e ∷ with_place key date ds) not_before
+        ∙ ap (λ es. e ∷ es) rest
+
 -- ---- what stays so
 
 rising : (ds : List Dated) → IsStrictlySortedBy dated_cmp ds → Rising dated_cmp ds
 unfolding IsStrictlySortedBy
 rising [] h = tt
-rising (d ∷ ds) h = (above ds h.0, rising ds h.1)
-  where
-    above : (es : List Dated) → AllByRecursion (λ e. dated_cmp d e ≡ Less) es → Above dated_cmp d es
-    above [] a = tt
-    above (e ∷ es) a = (ap is_lt a.0, above es a.1)
+rising (d ∷ ds) h = (above_all d ds h.0, rising ds h.1)
 
 -- one with another key does not tie
 pub no_tie : (key : ChatKey) (date : Option ℕ) (ds : List Dated) → None_of (of_key key) ds → AllByRecursion (λ d. dated_cmp d (key, date) ≢ Equal) ds

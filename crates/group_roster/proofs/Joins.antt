@@ -1,11 +1,10 @@
 -- Who joins a thread, card by card: the members are only added to, and each has the spot of the card by which it came.
-use Rattle.std.proofs.Common.{◌≡◌, refl, sym, ap, ◌∙◌, subst, ℕ, Bool, true, false, not, ◌||◌, cond, List, [], ◌∷◌, ◌++◌, length, map, take, drop, append_assoc, append-nil, arith, length-append}
+use Rattle.std.proofs.Common.{◌≡◌, refl, sym, ap, ◌∙◌, subst, Bool, true, false, not, ◌||◌, List, [], ◌∷◌, ◌++◌, length, map, take, drop, append_assoc, append-nil, arith, length-append}
 use Rattle.std.specs.Prelude.{if◌then◌else◌, fold, count_by}
 use Rattle.std.specs.List.{AllByRecursion, IsDistinct, list_all, list_any}
 use Rattle.std.specs.Str.{bytes_eq}
 use Rattle.std.specs.Ordering.{is_lt}
 use Rattle.std.proofs.lemmas.Bool.{and_parts, false≢true}
-use Rattle.std.proofs.lemmas.List.Sums.{sum_by-append, sum_by-cons}
 use Rattle.std.proofs.Math.Seq.{drop-append_seam, take-append_seam}
 use Rattle.indexmap.specs.IndexSet.{insert_key}
 use Rattle.lists.specs.Distinct.{each_once}
@@ -24,6 +23,7 @@ use Rattle.group_roster.specs.declared.setters.Setters.{Setters}
 use Rattle.group_roster.specs.Setters.{At, newcomers, joined_at, setters_after, setters_from}
 use Rattle.group_roster.proofs.Once.{once_more}
 use Rattle.group_roster.proofs.Says.{cards_of}
+use Rattle.group_roster.proofs.Seams.{all_both, count_seam}
 use Rattle.group_roster.proofs.Slots.{same_spot}
 
 -- ---- addresses that are said, each once
@@ -111,10 +111,6 @@ module _ (i : Bytes) where
   all_at P spot [] h = tt
   all_at P spot (n ∷ new) h = (h, all_at P spot new h)
 
-  pub all_both : (P : Spot → Type 0) (xs ys : List Spot) → AllByRecursion P xs → AllByRecursion P ys → AllByRecursion P (xs ++ ys)
-  all_both P [] ys h k = k
-  all_both P (x ∷ xs) ys h k = (h.0, all_both P xs ys h.1 k)
-
   pub joined_by : (P : Spot → Type 0) (r : Roster) (s : Setters) (cards : List At) → AllByRecursion (λ a. P a.spot) cards
       → JoinedBy P s (setters_from (Thread i) r s cards)
   joined_by P r s [] h = ([], sym (append-nil s.joined), tt)
@@ -145,14 +141,6 @@ module _ (i : Bytes) where
 
   -- ---- who joined before a spot
 
-  count_all : (p : Spot → Bool) (xs : List Spot) → AllByRecursion (λ x. p x ≡ true) xs → count_by p xs ≡ length xs
-  count_all p [] h = refl
-  count_all p (x ∷ xs) h = omega (arith, sum_by-cons (λ y. cond (p y) 1 0) x xs, count_all p xs h.1, ap {B = ℕ} (λ b. cond b 1 0) h.0)
-
-  count_none : (p : Spot → Bool) (xs : List Spot) → AllByRecursion (λ x. p x ≡ false) xs → count_by p xs ≡ 0
-  count_none p [] h = refl
-  count_none p (x ∷ xs) h = omega (arith, sum_by-cons (λ y. cond (p y) 1 0) x xs, count_none p xs h.1, ap {B = ℕ} (λ b. cond b 1 0) h.0)
-
   -- the members before some cards are those who joined before their spots
   pub joined_before_are : (spot : Spot) (r : Roster) (s : Setters) (cards : List At) → IsDistinct bytes_eq r.members → length s.joined ≡ length r.members
       → AllByRecursion (λ j. is_lt (spot_cmp j spot) ≡ true) s.joined → AllByRecursion (λ a. is_lt (spot_cmp a.spot spot) ≡ false) cards
@@ -161,8 +149,7 @@ module _ (i : Bytes) where
       let p : Spot → Bool = λ j. is_lt (spot_cmp j spot) in
       let joined = joined_by (λ j. p j ≡ false) r s cards after in
       let members = thread_members r cards d in
-      let count : count_by p (s.joined ++ joined.0) ≡ length r.members =
-      sum_by-append (λ y. cond (p y) 1 0) s.joined joined.0 ∙ omega (arith, count_all p s.joined before, count_none p joined.0 joined.2, e) in
+      let count : count_by p (s.joined ++ joined.0) ≡ length r.members = count_seam p s.joined joined.0 before joined.2 ∙ e in
       ap (λ all. take (count_by p all) (fold (roster_after (Thread i)) r (cards_of cards)).members) joined.1
       ∙ ap (λ n. take n (fold (roster_after (Thread i)) r (cards_of cards)).members) count
       ∙ ap (take (length r.members)) members.1 ∙ take-append_seam r.members members.0

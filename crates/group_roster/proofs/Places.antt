@@ -1,18 +1,19 @@
 -- A card that is put in at its place, or taken out there, by what the setters say.
-use Rattle.std.proofs.Common.{◌≡◌, refl, sym, ap, ◌∙◌, ◌<◌, Bool, true, false, not, inl, inr, Some, List, [], ◌∷◌, ◌++◌, length, map, arith}
-use Rattle.std.specs.Prelude.{if◌then◌else◌, fold, ◌&&◌, ◌||◌}
+use Rattle.std.proofs.Common.{◌≡◌, refl, sym, ap, ◌∙◌, ◌<◌, Bool, true, false, eqb, inl, inr, Some, List, [], ◌∷◌, ◌++◌, length, map, arith}
+use Rattle.std.specs.Prelude.{fold, ◌&&◌, ◌||◌}
 use Rattle.std.specs.List.{AllByRecursion, IsDistinct, list_all, list_any}
 use Rattle.std.specs.List.Sorted.{IsStrictlySortedBy}
 use Rattle.std.specs.Str.{bytes_eq}
+use Rattle.std.specs.Cmp.Lexicographic.{bytes_decides}
 use Rattle.std.specs.declared.cmp.Ordering.TheVariants.{Less}
 use Rattle.std.specs.Ordering.{is_lt}
-use Rattle.std.proofs.lemmas.Bool.{and_parts, or_parts, cases_Bool, false≢true, not-true}
+use Rattle.std.proofs.lemmas.Bool.{and_parts, or_parts, cases_Bool, eqb-true, false≢true}
 use Rattle.std.proofs.lemmas.List.{map-append}
 use Rattle.std.proofs.lemmas.List.Folds.{list_any-append}
 use Rattle.std.proofs.lemmas.List.Sums.{fold-append}
 use Rattle.lists.proofs.Rising.{never_back}
 use Rattle.card_type.specs.declared.key.ChatKey.{ChatKey}
-use Rattle.card_type.specs.declared.key.ChatKey.TheVariants.{Group, Thread}
+use Rattle.card_type.specs.declared.key.ChatKey.TheVariants.{Thread}
 use Rattle.card_type.specs.declared.spot.Spot.{Spot}
 use Rattle.card_type.specs.Effects.{is_among}
 use Rattle.card_type.specs.Spots.{spot_cmp, spot_eq}
@@ -20,12 +21,12 @@ use Rattle.card_type.proofs.Orders.{spots_total}
 use Rattle.mailbox_model.specs.declared.roster.Roster.{Roster}
 use Rattle.mailbox_model.specs.Chats.{people}
 use Rattle.mailbox_model.specs.Lists.{Bytes}
-use Rattle.mailbox_model.specs.Rosters.{changes_members, first_members, roster_after, roster_begun, roster_of}
+use Rattle.mailbox_model.specs.Rosters.{first_members, roster_after, roster_begun, roster_of}
 use Rattle.group_roster.specs.declared.setters.Setters.{Setters}
-use Rattle.group_roster.specs.Setters.{At, AreInOrder, is_before, is_kept, is_of_stranger, is_past, joined_at, joined_before, keeps_name, keeps_timer, no_setters, setters_after, setters_after_member, setters_begun, setters_from, setters_of}
+use Rattle.group_roster.specs.Setters.{At, AreInOrder, is_before, is_kept, joined_at, joined_before, keeps_timer, no_setters, setters_after, setters_begun, setters_from, setters_of}
 use Rattle.group_roster.proofs.Joins.{joined_before_are, joined_by, no_newcomers, none_new}
-use Rattle.group_roster.proofs.Says.{cards_of, setter_answers, stayed_with, stayed_without, value_stayed}
-use Rattle.group_roster.proofs.Unchanged.{Stay, group_stays, listed_step, members_said, members_step, name_said, name_step, named_step, same_members, stranger_stays, thread_stays, timed_step, timer_said, timer_step, timer_with, timer_without, unsaid}
+use Rattle.group_roster.proofs.Says.{cards_of, setter_answers}
+use Rattle.group_roster.proofs.Unchanged.{Stay, thread_stays, timed_step, timer_said, timer_step, timer_with, timer_without}
 
 -- ---- spots before and after one
 
@@ -45,9 +46,24 @@ pub never_before : (spot : Spot) (cards : List At) → Below spot cards → AllB
 never_before spot [] h = tt
 never_before spot (a ∷ more) h = (later_not a.spot spot h.0, never_before spot more h.1)
 
-pub never_past : (spot : Spot) (cards : List At) → Above spot cards → AllByRecursion (λ a. is_past spot (Some a.spot) ≡ false) cards
+pub never_past : (spot : Spot) (cards : List At) → Above spot cards → AllByRecursion (λ a. is_lt (spot_cmp a.spot spot) ≡ false) cards
 never_past spot [] h = tt
 never_past spot (a ∷ more) h = (later_not spot a.spot h.0, never_past spot more h.1)
+
+-- a spot is not one that is after it
+pub is_not_same : (x y : Spot) → is_lt (spot_cmp x y) ≡ true → spot_eq x y ≡ false
+is_not_same x y h = elim (cases_Bool (spot_eq x y)) [
+  | inl same ↦
+      let parts = and_parts (eqb x.date y.date) (bytes_eq x.id y.id && eqb x.uid y.uid) same in
+      let others = and_parts (bytes_eq x.id y.id) (eqb x.uid y.uid) parts.1 in
+      let is : y ≡ x = λ k. record {
+        date = sym (eqb-true x.date y.date parts.0) k;
+        id = sym ((bytes_decides x.id y.id).0 others.0) k;
+        uid = sym (eqb-true x.uid y.uid others.1) k;
+      } in
+      absurd (false≢true (sym (not_itself x) ∙ ap (λ z. is_lt (spot_cmp x z)) (sym is) ∙ h))
+  | inr other ↦ other
+]
 
 middle : (x : Spot) (before : List At) (a : At) (after : List At) → AllByRecursion (λ y. spot_cmp x y ≡ Less) (map (λ c. c.spot) (before ++ a ∷ after))
     → is_lt (spot_cmp x a.spot) ≡ true
@@ -68,67 +84,8 @@ unfolding IsStrictlySortedBy
 are_above [] a after s = all_above a.spot after s.0
 are_above (b ∷ before) a after s = are_above before a after s.1
 
-rest_true : (b c : Bool) → b ≡ false → (b || c) ≡ true → c ≡ true
+pub rest_true : (b c : Bool) → b ≡ false → (b || c) ≡ true → c ≡ true
 rest_true b c e h = ap (λ x. x || c) (sym e) ∙ h
-
--- ---- further cards of a group
-
-module _ (g : Bytes) (r : Roster) (s : Setters) (a : At) (after : List At)
-    (listed : is_before a.spot s.listed ≡ false) (named : is_before a.spot s.named ≡ false) (timed : is_before a.spot s.timed ≡ false)
-    (above : Above a.spot after) where
-  abbrev pub Less_ : Roster
-  Less_ = fold (roster_after (Group g)) r (cards_of after)
-
-  abbrev pub SettersLess : Setters
-  SettersLess = setters_from (Group g) r s after
-
-  abbrev pub SettersMore : Setters
-  SettersMore = setters_from (Group g) r s (a ∷ after)
-
-  of_stranger : is_of_stranger Less_ SettersLess a ≡ true → Stay (Group g) r s a after
-  of_stranger h =
-      let parts = and_parts (is_past a.spot SettersLess.listed) (not (is_among Less_.members a.card.from)) h in
-      let members = value_stayed (Group g) members_said (λ r. r.members) (λ s. s.listed) (members_step g) (listed_step g) (is_past a.spot) r s after (never_past a.spot after above) parts.0 in
-      stranger_stays g r s a after (ap (λ ms. is_among ms a.card.from) (sym members) ∙ not-true (is_among Less_.members a.card.from) parts.1)
-
-  of_member : (not (changes_members a.card) && keeps_name SettersLess a && keeps_timer SettersLess a) ≡ true → Stay (Group g) r s a after
-  of_member h =
-      let parts = and_parts (not (changes_members a.card) && keeps_name SettersLess a) (keeps_timer SettersLess a) h in
-      let first = and_parts (not (changes_members a.card)) (keeps_name SettersLess a) parts.0 in
-      let silent = not-true (changes_members a.card) first.0 in
-      let same = same_members g r s a after silent in
-      let name = stayed_with (Group g) name_said (λ r. r.name) (λ s. s.named) (name_step g) (named_step g) r s a after same
-      (unsaid (Rattle.mailbox_model.specs.Rosters.changes_name a.card) (is_before a.spot SettersLess.named) a.card.group_name first.1) named in
-      group_stays g r s a after silent name.0 name.1 listed (timer_with (Group g) r s a after same parts.1 timed)
-
-  pub group_with : (is_of_stranger Less_ SettersLess a || (not (changes_members a.card) && keeps_name SettersLess a && keeps_timer SettersLess a)) ≡ true
-      → Stay (Group g) r s a after
-  group_with h = elim (cases_Bool (is_of_stranger Less_ SettersLess a)) [
-    | inl e ↦ of_stranger e
-    | inr e ↦ of_member (rest_true (is_of_stranger Less_ SettersLess a) (not (changes_members a.card) && keeps_name SettersLess a && keeps_timer SettersLess a) e h)
-  ]
-
-  -- whose card says the members anew, and is after the one that did so last, is no member
-  is_stranger : changes_members a.card ≡ true → is_past a.spot SettersMore.listed ≡ true → is_among r.members a.card.from ≡ false
-  is_stranger says past = elim (cases_Bool (is_among r.members a.card.from)) [
-    | inl e ↦
-        let here : (setters_after (Group g) r s a).listed ≡ Some a.spot =
-        ap (λ b. (if b then setters_after_member s a else s).listed) e ∙ ap (λ b. if b then Some a.spot else s.listed) says in
-        let not_past = setter_answers (Group g) members_said (λ r. r.members) (λ s. s.listed) (members_step g) (listed_step g) (is_past a.spot) false
-        (roster_after (Group g) r a.card) (setters_after (Group g) r s a) after (never_past a.spot after above) (ap (is_past a.spot) here ∙ not_itself a.spot) in
-        absurd (false≢true (sym not_past ∙ past))
-    | inr e ↦ e
-  ]
-
-  pub group_without : (not (changes_members a.card) || is_past a.spot SettersMore.listed) ≡ true
-      → is_kept a.spot SettersMore.named ≡ false → is_kept a.spot SettersMore.timed ≡ false → Stay (Group g) r s a after
-  group_without members name timer = elim (cases_Bool (changes_members a.card)) [
-    | inl says ↦ stranger_stays g r s a after (is_stranger says (rest_true (not (changes_members a.card)) (is_past a.spot SettersMore.listed) (ap not says) members))
-    | inr silent ↦
-        let same = same_members g r s a after silent in
-        let names = stayed_without (Group g) name_said (λ r. r.name) (λ s. s.named) (name_step g) (named_step g) r s a after same name in
-        group_stays g r s a after silent names.0 names.1 listed (timer_without (Group g) r s a after same timer)
-  ]
 
 -- ---- further cards of a thread
 

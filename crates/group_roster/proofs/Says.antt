@@ -14,7 +14,7 @@ use Rattle.mailbox_model.specs.Lists.{Bytes}
 use Rattle.mailbox_model.specs.Rosters.{changes_members, group_after, group_after_member, listed, roster_after}
 use Rattle.group_roster.specs.declared.setters.Setters.{Setters}
 use Rattle.group_roster.specs.Setters.{At, setters_after, setters_from, is_before, is_kept}
-use Rattle.group_roster.proofs.Slots.{value_after, spot_after, all_answer, nothing_said, one_more, one_less}
+use Rattle.group_roster.proofs.Slots.{value_after, spot_after, all_answer, one_more, one_less}
 
 abbrev pub cards_of : List At → List Card
 cards_of cards = map (λ a. a.card) cards
@@ -33,7 +33,7 @@ group_members members c = if is_among members c.from then (if changes_members c 
 pub group_members_are : (r : Roster) (c : Card) → (group_after r c).members ≡ group_members r.members c
 group_members_are r c = elim (is_among r.members c.from) as (λ b. (if b then group_after_member r c else r).members ≡ (if b then (if changes_members c then listed c else r.members) else r.members)) [ true ↦ refl | false ↦ refl ]
 
--- from the same members on, the members are the same, and the same are heard
+-- from the same members on, the members are the same
 pub members_alike : (key : ChatKey) (q r : Roster) (c : Card) → q.members ≡ r.members → (roster_after key q c).members ≡ (roster_after key r c).members
 members_alike SelfChat q r c e = e
 members_alike (Single other) q r c e = e
@@ -44,10 +44,39 @@ pub all_members_alike : (key : ChatKey) (q r : Roster) (cards : List Card) → q
 all_members_alike key q r [] e = e
 all_members_alike key q r (c ∷ cs) e = all_members_alike key (roster_after key q c) (roster_after key r c) cs (members_alike key q r c e)
 
-heard_alike : (key : ChatKey) (q r : Roster) (c : Card) → q.members ≡ r.members → is_heard key q c ≡ is_heard key r c
+-- the same cards are heard: in a group where the members are the same people, in any order
+abbrev pub Alike : ChatKey → Roster → Roster → Type 0
+Alike SelfChat q r = q.members ≡ r.members
+Alike (Single other) q r = q.members ≡ r.members
+Alike (Group g) q r = (p : Bytes) → is_among q.members p ≡ is_among r.members p
+Alike (Thread i) q r = q.members ≡ r.members
+
+pub alike_if_same : (key : ChatKey) (q r : Roster) → q.members ≡ r.members → Alike key q r
+alike_if_same SelfChat q r e = e
+alike_if_same (Single other) q r e = e
+alike_if_same (Group g) q r e = λ p. ap (λ ms. is_among ms p) e
+alike_if_same (Thread i) q r e = e
+
+people_after : (qs rs : List Bytes) (c : Card) → ((p : Bytes) → is_among qs p ≡ is_among rs p) → (p : Bytes)
+    → is_among (group_members qs c) p ≡ is_among (group_members rs c) p
+people_after qs rs c e p =
+    ap (λ b. is_among (if b then (if changes_members c then listed c else qs) else qs) p) (e c.from)
+    ∙ elim (is_among rs c.from) as (λ b. is_among (if b then (if changes_members c then listed c else qs) else qs) p ≡ is_among (if b then (if changes_members c then listed c else rs) else rs) p) [
+      | true ↦ elim (changes_members c) as (λ b. is_among (if b then listed c else qs) p ≡ is_among (if b then listed c else rs) p) [ true ↦ refl | false ↦ e p ]
+      | false ↦ e p
+    ]
+
+alike_after : (key : ChatKey) (q r : Roster) (c : Card) → Alike key q r → Alike key (roster_after key q c) (roster_after key r c)
+alike_after SelfChat q r c e = e
+alike_after (Single other) q r c e = e
+alike_after (Group g) q r c e =
+    λ p. ap (λ ms. is_among ms p) (group_members_are q c) ∙ people_after q.members r.members c e p ∙ ap (λ ms. is_among ms p) (sym (group_members_are r c))
+alike_after (Thread i) q r c e = ap (λ ms. each_once (ms ++ people c)) e
+
+heard_alike : (key : ChatKey) (q r : Roster) (c : Card) → Alike key q r → is_heard key q c ≡ is_heard key r c
 heard_alike SelfChat q r c e = refl
 heard_alike (Single other) q r c e = refl
-heard_alike (Group g) q r c e = ap (λ ms. is_among ms c.from) e
+heard_alike (Group g) q r c e = e c.from
 heard_alike (Thread i) q r c e = refl
 
 -- ---- what is said
@@ -60,29 +89,32 @@ module _ {V : Type 0} (key : ChatKey) (said : Card → Option V) where
   says r [] = []
   says r (a ∷ more) = (heard r a.card, a.spot) ∷ says (roster_after key r a.card) more
 
-  says_alike : (q r : Roster) (cards : List At) → q.members ≡ r.members → says q cards ≡ says r cards
+  pub says_alike : (q r : Roster) (cards : List At) → Alike key q r → says q cards ≡ says r cards
   says_alike q r [] e = refl
   says_alike q r (a ∷ more) e =
       let same = heard_alike key q r a.card e in
-      let rest = says_alike (roster_after key q a.card) (roster_after key r a.card) more (members_alike key q r a.card e) in
+      let rest = says_alike (roster_after key q a.card) (roster_after key r a.card) more (alike_after key q r a.card e) in
       λ i. ((if same i then said a.card else None), a.spot) ∷ rest i
 
-  all_said : (P : Spot → Type 0) (r : Roster) (cards : List At) → AllByRecursion (λ a. P a.spot) cards → AllByRecursion (λ y. P y.1) (says r cards)
+  pub all_said : (P : Spot → Type 0) (r : Roster) (cards : List At) → AllByRecursion (λ a. P a.spot) cards → AllByRecursion (λ y. P y.1) (says r cards)
   all_said P r [] h = tt
   all_said P r (a ∷ more) h = (h.0, all_said P (roster_after key r a.card) more h.1)
 
   silent : (r : Roster) (c : Card) → said c ≡ None → heard r c ≡ None
   silent r c e = elim (is_heard key r c) as (λ b. (if b then said c else None) ≡ None) [ true ↦ e | false ↦ refl ]
 
-  -- a value of the roster that is what was said last, and the setter that is where it was said
+  -- a value of the roster that is what was said last
+  pub value_is : (value : Roster → V) → ((r : Roster) (c : Card) → value (roster_after key r c) ≡ unwrap_or (heard r c) (value r))
+      → (r : Roster) (cards : List At) → value (fold (roster_after key) r (cards_of cards)) ≡ value_after (value r) (says r cards)
+  value_is value value_step r [] = refl
+  value_is value value_step r (a ∷ more) =
+      value_is value value_step (roster_after key r a.card) more
+      ∙ ap (λ v. value_after v (says (roster_after key r a.card) more)) (value_step r a.card)
+
+  -- and the setter that is where it was said
   module _ (value : Roster → V) (setter : Setters → Option Spot)
       (value_step : (r : Roster) (c : Card) → value (roster_after key r c) ≡ unwrap_or (heard r c) (value r))
       (setter_step : (r : Roster) (s : Setters) (a : At) → setter (setters_after key r s a) ≡ (if is_some (heard r a.card) then Some a.spot else setter s)) where
-    value_is : (r : Roster) (cards : List At) → value (fold (roster_after key) r (cards_of cards)) ≡ value_after (value r) (says r cards)
-    value_is r [] = refl
-    value_is r (a ∷ more) =
-        value_is (roster_after key r a.card) more ∙ ap (λ v. value_after v (says (roster_after key r a.card) more)) (value_step r a.card)
-
     setter_is : (r : Roster) (s : Setters) (cards : List At) → setter (setters_from key r s cards) ≡ spot_after (setter s) (says r cards)
     setter_is r s [] = refl
     setter_is r s (a ∷ more) =
@@ -95,27 +127,19 @@ module _ {V : Type 0} (key : ChatKey) (said : Card → Option V) where
     setter_answers p b r s cards h k =
         ap p (setter_is r s cards) ∙ all_answer p b (says r cards) (setter s) (all_said (λ spot. p (Some spot) ≡ b) r cards h) k
 
-    -- where the setter passes a test and none of these cards does, the value stayed
-    pub value_stayed : (p : Option Spot → Bool) (r : Roster) (s : Setters) (cards : List At)
-        → AllByRecursion (λ a. p (Some a.spot) ≡ false) cards → p (setter (setters_from key r s cards)) ≡ true
-        → value (fold (roster_after key) r (cards_of cards)) ≡ value r
-    value_stayed p r s cards h k =
-        value_is r cards
-        ∙ nothing_said p (says r cards) (value r) (setter s) (all_said (λ spot. p (Some spot) ≡ false) r cards h) (ap p (sym (setter_is r s cards)) ∙ k)
-
-    module _ (r : Roster) (s : Setters) (a : At) (after : List At) (same : (roster_after key r a.card).members ≡ r.members) where
+    module _ (r : Roster) (s : Setters) (a : At) (after : List At) (alike : Alike key (roster_after key r a.card) r) where
       abbrev Stayed : Type 0
       Stayed =
           (value (fold (roster_after key) r (cards_of (a ∷ after))) ≡ value (fold (roster_after key) r (cards_of after)))
           × (setter (setters_from key r s (a ∷ after)) ≡ setter (setters_from key r s after))
 
       said_with : says r (a ∷ after) ≡ (heard r a.card, a.spot) ∷ says r after
-      said_with = ap (λ ys. (heard r a.card, a.spot) ∷ ys) (says_alike (roster_after key r a.card) r after same)
+      said_with = ap (λ ys. (heard r a.card, a.spot) ∷ ys) (says_alike (roster_after key r a.card) r after alike)
 
       stayed : (value_after (value r) ((heard r a.card, a.spot) ∷ says r after) ≡ value_after (value r) (says r after))
           × (spot_after (setter s) ((heard r a.card, a.spot) ∷ says r after) ≡ spot_after (setter s) (says r after)) → Stayed
       stayed is = (
-        value_is r (a ∷ after) ∙ ap (value_after (value r)) said_with ∙ is.0 ∙ sym (value_is r after),
+        value_is value value_step r (a ∷ after) ∙ ap (value_after (value r)) said_with ∙ is.0 ∙ sym (value_is value value_step r after),
         setter_is r s (a ∷ after) ∙ ap (spot_after (setter s)) said_with ∙ is.1 ∙ sym (setter_is r s after),
       )
 

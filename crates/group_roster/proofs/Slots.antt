@@ -36,13 +36,6 @@ module _ {V : Type 0} where
   all_answer p b ((None, spot) ∷ ys) s a h = all_answer p b ys s a.1 h
   all_answer p b ((Some x, spot) ∷ ys) s a h = all_answer p b ys (Some spot) a.1 a.0
 
-  -- where the last spot passes a test and none of these does, nothing was said
-  pub nothing_said : (p : Option Spot → Bool) (ys : List (Option V × Spot)) (v : V) (s : Option Spot)
-      → AllByRecursion (λ y. p (Some y.1) ≡ false) ys → p (spot_after s ys) ≡ true → value_after v ys ≡ v
-  nothing_said p [] v s a h = refl
-  nothing_said p ((None, spot) ∷ ys) v s a h = nothing_said p ys v s a.1 h
-  nothing_said p ((Some x, spot) ∷ ys) v s a h = absurd (false≢true (sym (all_answer p false ys (Some spot) a.1 a.0) ∙ h))
-
   -- one more at first changes nothing where it says nothing, or where the last spot is after it
   pub one_more : (spot : Spot) (o : Option V) (ys : List (Option V × Spot)) (v : V) (s : Option Spot)
       → (o ≡ None) ⊎ (is_before spot (spot_after s ys) ≡ true) → is_before spot s ≡ false

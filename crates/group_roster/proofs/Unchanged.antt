@@ -13,7 +13,7 @@ use Rattle.group_roster.specs.declared.setters.Setters.{Setters}
 use Rattle.group_roster.specs.Setters.{At, is_before, is_kept, joined_at, keeps_timer, setters_after, setters_after_member, setters_from}
 use Rattle.group_roster.proofs.Folds.{begun_all}
 use Rattle.group_roster.proofs.Joins.{none_joined}
-use Rattle.group_roster.proofs.Says.{cards_of, is_heard, heard, all_members_alike, setter_answers, stayed_with, stayed_without, value_stayed}
+use Rattle.group_roster.proofs.Says.{Alike, alike_if_same, cards_of, is_heard, heard, all_members_alike, stayed_with, stayed_without}
 
 -- ---- what the cards say
 
@@ -70,14 +70,6 @@ pub members_step : (g : Bytes) (r : Roster) (c : Card) → (roster_after (Group 
 members_step g r c =
     elim (is_among r.members c.from) as (λ b. (if b then group_after_member r c else r).members ≡ unwrap_or (if b then members_said c else None) r.members) [ true ↦ by_test (changes_members c) (listed c) r.members | false ↦ refl ]
 
-pub listed_step : (g : Bytes) (r : Roster) (s : Setters) (a : At)
-    → (setters_after (Group g) r s a).listed ≡ (if is_some (heard (Group g) members_said r a.card) then Some a.spot else s.listed)
-listed_step g r s a =
-    elim (is_among r.members a.card.from) as (λ b. (if b then setters_after_member s a else s).listed ≡ (if is_some (if b then members_said a.card else None) then Some a.spot else s.listed)) [
-      | true ↦ spot_by_test (changes_members a.card) (listed a.card) a.spot s.listed
-      | false ↦ refl
-    ]
-
 -- ---- what no further card changes
 
 kept_setter : {X : Type 0} (key : ChatKey) (f : Setters → X) → ((r : Roster) (s : Setters) (a : At) → f (setters_after key r s a) ≡ f s)
@@ -118,13 +110,37 @@ pub unsaid : {V : Type 0} (test other : Bool) (x : V) → (not test || other) �
 unsaid true other x h = inr h
 unsaid false other x h = inl refl
 
+-- all but the listings
+abbrev pub rest_of : Setters → Setters
+rest_of s = record s { listings = [] }
+
 -- ---- with one card more
 
 module _ (key : ChatKey) (r : Roster) (s : Setters) (a : At) (after : List At) where
+  abbrev pub more : Roster
+  more = fold (roster_after key) r (cards_of (a ∷ after))
+
+  abbrev pub less : Roster
+  less = fold (roster_after key) r (cards_of after)
+
+  abbrev pub setters_more : Setters
+  setters_more = setters_from key r s (a ∷ after)
+
+  abbrev pub setters_less : Setters
+  setters_less = setters_from key r s after
+
   -- the roster and its setters are the same with the card at first
   pub record Stay : Type 0 where
-    pub roster : fold (roster_after key) r (cards_of (a ∷ after)) ≡ fold (roster_after key) r (cards_of after)
-    pub setters : setters_from key r s (a ∷ after) ≡ setters_from key r s after
+    pub roster : more ≡ less
+    pub setters : setters_more ≡ setters_less
+
+  -- but for the listings
+  pub record StayElse : Type 0 where
+    pub roster : more ≡ less
+    pub rest : rest_of setters_more ≡ rest_of setters_less
+
+  pub with_listings : StayElse → setters_more.listings ≡ setters_less.listings → Stay
+  with_listings stay listings = record { roster = stay.roster; setters = λ k. record (stay.rest k) { listings = listings k } }
 
   -- as they are where the card changes neither of them
   unheard : roster_after key r a.card ≡ r → setters_after key r s a ≡ s → Stay
@@ -134,28 +150,15 @@ module _ (key : ChatKey) (r : Roster) (s : Setters) (a : At) (after : List At) w
         setters = λ k. setters_from key (e k) (f k) after;
       }
 
-  module _ (same : (roster_after key r a.card).members ≡ r.members) where
-    abbrev more : Roster
-    more = fold (roster_after key) r (cards_of (a ∷ after))
-
-    abbrev less : Roster
-    less = fold (roster_after key) r (cards_of after)
-
-    abbrev setters_more : Setters
-    setters_more = setters_from key r s (a ∷ after)
-
-    abbrev setters_less : Setters
-    setters_less = setters_from key r s after
-
-    part_by_part : more.name ≡ less.name → (more.timer ≡ less.timer) × (setters_more.timed ≡ setters_less.timed)
-        → setters_more.listed ≡ setters_less.listed → setters_more.named ≡ setters_less.named → setters_more.joined ≡ setters_less.joined → Stay
-    part_by_part name timer listed named joined =
+  module _ (alike : Alike key (roster_after key r a.card) r) where
+    part_by_part : more.members ≡ less.members → more.name ≡ less.name → (more.timer ≡ less.timer) × (setters_more.timed ≡ setters_less.timed)
+        → setters_more.named ≡ setters_less.named → setters_more.joined ≡ setters_less.joined → StayElse
+    part_by_part members name timer named joined =
         let begun : more.begun ≡ less.begun = begun_all key r (cards_of (a ∷ after)) ∙ sym (begun_all key r (cards_of after)) in
-        let members : more.members ≡ less.members = all_members_alike key (roster_after key r a.card) r (cards_of after) same in
         let first : setters_more.first ≡ setters_less.first = first_kept key r s (a ∷ after) ∙ sym (first_kept key r s after) in
         record {
           roster = λ k. record { begun = begun k; members = members k; name = name k; timer = timer.0 k };
-          setters = λ k. record { first = first k; listed = listed k; named = named k; timed = timer.1 k; joined = joined k };
+          rest = λ k. record { first = first k; listings = []; named = named k; timed = timer.1 k; joined = joined k };
         }
 
     abbrev pub SameTimer : Type 0
@@ -163,31 +166,27 @@ module _ (key : ChatKey) (r : Roster) (s : Setters) (a : At) (after : List At) w
 
     pub timer_with : keeps_timer setters_less a ≡ true → is_before a.spot s.timed ≡ false → SameTimer
     timer_with keeps h =
-        stayed_with key timer_said (λ r. r.timer) (λ s. s.timed) (timer_step key) (timed_step key) r s a after same
+        stayed_with key timer_said (λ r. r.timer) (λ s. s.timed) (timer_step key) (timed_step key) r s a after alike
         (unsaid a.card.chat (is_before a.spot setters_less.timed) a.card.timer keeps) h
 
     pub timer_without : is_kept a.spot setters_more.timed ≡ false → SameTimer
-    timer_without h = stayed_without key timer_said (λ r. r.timer) (λ s. s.timed) (timer_step key) (timed_step key) r s a after same h
+    timer_without h = stayed_without key timer_said (λ r. r.timer) (λ s. s.timed) (timer_step key) (timed_step key) r s a after alike h
 
 -- ---- a chat with oneself or with one other
 
-pub self_stays : (r : Roster) (s : Setters) (a : At) (after : List At) → SameTimer SelfChat r s a after refl → Stay SelfChat r s a after
-self_stays r s a after timer =
-    let name = kept_value SelfChat (λ r. r.name) (λ r c. refl) r in
-    let listed = kept_setter SelfChat (λ s. s.listed) (λ r s a. refl) r s in
-    let named = kept_setter SelfChat (λ s. s.named) (λ r s a. refl) r s in
-    let joined = kept_setter SelfChat (λ s. s.joined) (λ r s a. refl) r s in
-    part_by_part SelfChat r s a after refl (name (cards_of (a ∷ after)) ∙ sym (name (cards_of after))) timer
-    (listed (a ∷ after) ∙ sym (listed after)) (named (a ∷ after) ∙ sym (named after)) (joined (a ∷ after) ∙ sym (joined after))
-
-pub single_stays : (other : Bytes) (r : Roster) (s : Setters) (a : At) (after : List At) → SameTimer (Single other) r s a after refl → Stay (Single other) r s a after
-single_stays other r s a after timer =
-    let name = kept_value (Single other) (λ r. r.name) (λ r c. refl) r in
-    let listed = kept_setter (Single other) (λ s. s.listed) (λ r s a. refl) r s in
-    let named = kept_setter (Single other) (λ s. s.named) (λ r s a. refl) r s in
-    let joined = kept_setter (Single other) (λ s. s.joined) (λ r s a. refl) r s in
-    part_by_part (Single other) r s a after refl (name (cards_of (a ∷ after)) ∙ sym (name (cards_of after))) timer
-    (listed (a ∷ after) ∙ sym (listed after)) (named (a ∷ after) ∙ sym (named after)) (joined (a ∷ after) ∙ sym (joined after))
+module _ (key : ChatKey) (same : (r : Roster) (c : Card) → ((roster_after key r c).members ≡ r.members) × ((roster_after key r c).name ≡ r.name))
+    (kept : (r : Roster) (s : Setters) (a : At) → record (setters_after key r s a) { timed = None } ≡ record s { timed = None }) where
+  pub plain_stays : (r : Roster) (s : Setters) (a : At) (after : List At) → SameTimer key r s a after (alike_if_same key (roster_after key r a.card) r (same r a.card).0) → Stay key r s a after
+  plain_stays r s a after timer =
+      let members = kept_value key (λ r. r.members) (λ r c. (same r c).0) r in
+      let name = kept_value key (λ r. r.name) (λ r c. (same r c).1) r in
+      let rest = kept_setter key (λ s. record s { timed = None }) kept r s in
+      let setters : record (setters_more key r s a after) { timed = None } ≡ record (setters_less key r s a after) { timed = None } = rest (a ∷ after) ∙ sym (rest after) in
+      with_listings key r s a after
+      (part_by_part key r s a after (alike_if_same key (roster_after key r a.card) r (same r a.card).0)
+      (members (cards_of (a ∷ after)) ∙ sym (members (cards_of after))) (name (cards_of (a ∷ after)) ∙ sym (name (cards_of after))) timer
+      (ap (λ (s : Setters). s.named) setters) (ap (λ (s : Setters). s.joined) setters))
+      (ap (λ (s : Setters). s.listings) setters)
 
 -- ---- a thread
 
@@ -195,12 +194,14 @@ pub thread_stays : (i : Bytes) (r : Roster) (s : Setters) (a : At) (after : List
     → SameTimer (Thread i) r s a after same → Stay (Thread i) r s a after
 thread_stays i r s a after same timer =
     let name = kept_value (Thread i) (λ r. r.name) (λ r c. refl) r in
-    let listed = kept_setter (Thread i) (λ s. s.listed) (λ r s a. refl) r s in
+    let listings = kept_setter (Thread i) (λ s. s.listings) (λ r s a. refl) r s in
     let named = kept_setter (Thread i) (λ s. s.named) (λ r s a. refl) r s in
     let joined = ap (λ new. s.joined ++ new) (none_joined r.members a same) ∙ append-nil s.joined in
-    part_by_part (Thread i) r s a after same (name (cards_of (a ∷ after)) ∙ sym (name (cards_of after))) timer
-    (listed (a ∷ after) ∙ sym (listed after)) (named (a ∷ after) ∙ sym (named after))
-    (joined_alike i (roster_after (Thread i) r a.card) r (setters_after (Thread i) r s a) s after same joined)
+    with_listings (Thread i) r s a after
+    (part_by_part (Thread i) r s a after same (all_members_alike (Thread i) (roster_after (Thread i) r a.card) r (cards_of after) same)
+    (name (cards_of (a ∷ after)) ∙ sym (name (cards_of after))) timer (named (a ∷ after) ∙ sym (named after))
+    (joined_alike i (roster_after (Thread i) r a.card) r (setters_after (Thread i) r s a) s after same joined))
+    (listings (a ∷ after) ∙ sym (listings after))
 
 -- ---- a group
 
@@ -216,16 +217,12 @@ module _ (g : Bytes) (r : Roster) (s : Setters) (a : At) (after : List At) where
         | false ↦ refl
       ]
 
-  unsaid_members : changes_members a.card ≡ false → members_said a.card ≡ None
-  unsaid_members e = ap (λ b. if b then Some (listed a.card) else None) e
-
-  pub group_stays : (silent : changes_members a.card ≡ false)
-      → (fold (roster_after (Group g)) r (cards_of (a ∷ after))).name ≡ (fold (roster_after (Group g)) r (cards_of after)).name
-      → (setters_from (Group g) r s (a ∷ after)).named ≡ (setters_from (Group g) r s after).named
-      → is_before a.spot s.listed ≡ false → SameTimer (Group g) r s a after (same_members silent) → Stay (Group g) r s a after
-  group_stays silent name named before timer =
+  -- a member's card that says no name that counts, nor timer, and the same people
+  pub group_stays : (alike : Alike (Group g) (roster_after (Group g) r a.card) r)
+      → (fold (roster_after (Group g)) r (cards_of (a ∷ after))).members ≡ (fold (roster_after (Group g)) r (cards_of after)).members
+      → ((fold (roster_after (Group g)) r (cards_of (a ∷ after))).name ≡ (fold (roster_after (Group g)) r (cards_of after)).name)
+      × ((setters_from (Group g) r s (a ∷ after)).named ≡ (setters_from (Group g) r s after).named)
+      → SameTimer (Group g) r s a after alike → StayElse (Group g) r s a after
+  group_stays alike members name timer =
       let joined = kept_setter (Group g) (λ s. s.joined) (group_joined_step g) r s in
-      let listed =
-      stayed_with (Group g) members_said (λ r. r.members) (λ s. s.listed) (members_step g) (listed_step g) r s a after (same_members silent)
-      (inl (unsaid_members silent)) before in
-      part_by_part (Group g) r s a after (same_members silent) name timer listed.1 named (joined (a ∷ after) ∙ sym (joined after))
+      part_by_part (Group g) r s a after alike members name.0 timer name.1 (joined (a ∷ after) ∙ sym (joined after))

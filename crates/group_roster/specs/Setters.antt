@@ -1,6 +1,6 @@
 -- Which cards of a chat its roster rests on, and which others may come or go and leave it as it is.
-use Rattle.std.specs.Prelude.{◌≡◌, Bool, true, false, not, ◌&&◌, ◌||◌, if◌then◌else◌, Option, Some, None, List, [], ◌∷◌, ◌++◌, length, map, take, drop, count_by}
-use Rattle.std.specs.List.{list_all, list_any}
+use Rattle.std.specs.Prelude.{◌≡◌, ℕ, suc, ◌-◌, ◌==◌, nat_lt, Bool, true, false, not, ◌&&◌, ◌||◌, if◌then◌else◌, Option, Some, None, List, [], ◌∷◌, ◌++◌, length, map, take, drop, count_by, slice_get}
+use Rattle.std.specs.List.{insert, list_all, list_any, remove}
 use Rattle.std.specs.List.Sorted.{IsStrictlySortedBy}
 use Rattle.std.specs.Option.{option_map_or}
 use Rattle.std.specs.Ordering.{is_lt}
@@ -14,7 +14,8 @@ use Rattle.card_type.specs.Spots.{spot_cmp, spot_eq}
 use Rattle.mailbox_model.specs.declared.roster.Roster.{Roster}
 use Rattle.mailbox_model.specs.Chats.{people}
 use Rattle.mailbox_model.specs.Lists.{Bytes}
-use Rattle.mailbox_model.specs.Rosters.{changes_members, changes_name, roster_begun, roster_after}
+use Rattle.mailbox_model.specs.Rosters.{changes_members, changes_name, listed, roster_begun, roster_after}
+use Rattle.group_roster.specs.declared.listings.Listing.{Listing}
 use Rattle.group_roster.specs.declared.setters.Setters.{Setters}
 use Rattle.group_roster.specs.Standing.{StandsFor}
 
@@ -33,6 +34,12 @@ has_founder (Single other) = false
 has_founder (Group g) = true
 has_founder (Thread i) = true
 
+abbrev pub is_group : ChatKey → Bool
+is_group SelfChat = false
+is_group (Single other) = false
+is_group (Group g) = true
+is_group (Thread i) = false
+
 abbrev pub is_thread : ChatKey → Bool
 is_thread SelfChat = false
 is_thread (Single other) = false
@@ -46,7 +53,11 @@ AreInOrder cards = IsStrictlySortedBy spot_cmp (map (λ a. a.spot) cards)
 -- ---- the setters
 
 abbrev pub no_setters : Setters
-no_setters = record { first = None; listed = None; named = None; timed = None; joined = [] }
+no_setters = record { first = None; listings = []; named = None; timed = None; joined = [] }
+
+-- a card that says the members of a group, and whom it says
+abbrev pub listing_of : At → Listing
+listing_of a = record { spot = a.spot; members = listed a.card }
 
 -- a card of a chat program sets the timer
 abbrev pub timed_after : Option Spot → At → Option Spot
@@ -64,14 +75,14 @@ joined_at members a = map (λ _. a.spot) (newcomers members a.card)
 abbrev pub setters_begun : ChatKey → At → Setters
 setters_begun SelfChat a = record no_setters { timed = timed_after None a }
 setters_begun (Single other) a = record no_setters { timed = timed_after None a }
-setters_begun (Group g) a = record no_setters { first = Some a.spot; timed = timed_after None a }
+setters_begun (Group g) a = record no_setters { first = Some a.spot; listings = listing_of a ∷ []; timed = timed_after None a }
 setters_begun (Thread i) a = record no_setters { first = Some a.spot; timed = timed_after None a; joined = joined_at [] a }
 
 -- a card of a group's member may say its members, its name and its timer anew
 abbrev pub setters_after_member : Setters → At → Setters
 setters_after_member s a =
     record s {
-      listed = if changes_members a.card then Some a.spot else s.listed;
+      listings = if changes_members a.card then s.listings ++ listing_of a ∷ [] else s.listings;
       named = if changes_name a.card then Some a.spot else s.named;
       timed = timed_after s.timed a;
     }
@@ -112,10 +123,6 @@ is_before spot kept = option_map_or (λ other. is_lt (spot_cmp spot other)) kept
 abbrev pub is_after : Spot → Option Spot → Bool
 is_after spot kept = option_map_or (λ other. is_lt (spot_cmp other spot)) kept false
 
--- it is after the one that is kept, or none is
-abbrev pub is_past : Spot → Option Spot → Bool
-is_past spot kept = option_map_or (λ other. is_lt (spot_cmp other spot)) kept true
-
 -- it is the one that is kept
 abbrev pub is_kept : Spot → Option Spot → Bool
 is_kept spot kept = option_map_or (spot_eq spot) kept false
@@ -128,18 +135,40 @@ keeps_timer s a = not a.card.chat || is_before a.spot s.timed
 abbrev pub keeps_name : Setters → At → Bool
 keeps_name s a = not (changes_name a.card) || is_before a.spot s.named
 
--- put into a group it is of a stranger: no later card lists the members, and its sender is none of them
-abbrev pub is_of_stranger : Roster → Setters → At → Bool
-is_of_stranger r s a = is_past a.spot s.listed && not (is_among r.members a.card.from)
+-- how many cards before a spot say the members of a group
+abbrev pub place_of : List Listing → Spot → ℕ
+place_of listings spot = count_by (λ l. is_lt (spot_cmp l.spot spot)) listings
+
+-- whom the last of so many of them says
+abbrev pub members_at : List Listing → ℕ → List Bytes
+members_at listings place = if place == 0 then [] else option_map_or (λ l. l.members) (slice_get listings (place - 1)) []
+
+-- the members of a group before a spot
+abbrev pub members_before : Setters → Spot → List Bytes
+members_before s spot = members_at s.listings (place_of s.listings spot)
+
+-- the same people are in both, in any order
+abbrev pub are_same_people : List Bytes → List Bytes → Bool
+are_same_people xs ys = list_all (is_among xs) ys && list_all (is_among ys) xs
+
+-- put in there, it says no members of a group, or those who are in already, and a later card says them too
+abbrev pub keeps_members : Setters → ℕ → Card → Bool
+keeps_members s place c =
+    not (changes_members c) || (nat_lt place (length s.listings) && are_same_people (members_at s.listings place) (listed c))
+
+-- put in, it is of a member
+abbrev pub is_of_member : Setters → At → Bool
+is_of_member s a = is_among (members_before s a.spot) a.card.from
 
 -- who joined a thread before a spot
 abbrev pub joined_before : Roster → Setters → Spot → List Bytes
 joined_before r s spot = take (count_by (λ other. is_lt (spot_cmp other spot)) s.joined) r.members
 
 -- put in among the cards of a group, or of a thread, it leaves the roster as it is
-abbrev pub stays_with_in_group : Roster → Setters → At → Bool
-stays_with_in_group r s a =
-    is_after a.spot s.first && (is_of_stranger r s a || (not (changes_members a.card) && keeps_name s a && keeps_timer s a))
+abbrev pub stays_with_in_group : Setters → At → Bool
+stays_with_in_group s a =
+    is_after a.spot s.first
+    && (not (is_of_member s a) || (keeps_members s (place_of s.listings a.spot) a.card && keeps_name s a && keeps_timer s a))
 
 abbrev pub stays_with_in_thread : Roster → Setters → At → Bool
 stays_with_in_thread r s a =
@@ -149,22 +178,52 @@ stays_with_in_thread r s a =
 abbrev pub stays_with : ChatKey → Roster → Setters → At → Bool
 stays_with SelfChat r s a = r.begun && keeps_timer s a
 stays_with (Single other) r s a = r.begun && keeps_timer s a
-stays_with (Group g) r s a = stays_with_in_group r s a
+stays_with (Group g) r s a = stays_with_in_group s a
 stays_with (Thread i) r s a = stays_with_in_thread r s a
 
--- taken out of a group, or of a thread, it leaves the roster as it is
-abbrev pub stays_without_in_group : Setters → At → Bool
-stays_without_in_group s a =
-    is_after a.spot s.first && (not (changes_members a.card) || is_past a.spot s.listed)
-    && not (is_kept a.spot s.named) && not (is_kept a.spot s.timed)
+-- whom the card says, where it says members, is kept at a place
+abbrev pub with_said : Setters → ℕ → At → Setters
+with_said s place a = if changes_members a.card then record s { listings = insert s.listings place (listing_of a) } else s
 
-abbrev pub stays_without_in_thread : Setters → At → Bool
-stays_without_in_thread s a =
-    is_after a.spot s.first && not (list_any (spot_eq a.spot) s.joined) && not (is_kept a.spot s.timed)
+-- with the card put in, whom it says is kept, where it is of a member of a group
+abbrev pub setters_put : ChatKey → Setters → At → Setters
+setters_put SelfChat s a = s
+setters_put (Single other) s a = s
+setters_put (Group g) s a = if is_of_member s a then with_said s (place_of s.listings a.spot) a else s
+setters_put (Thread i) s a = s
+
+-- the card at a spot, whose place this is, says the members of a group
+abbrev pub is_listed : Setters → ℕ → Spot → Bool
+is_listed s place spot = option_map_or (λ l. spot_eq spot l.spot) (slice_get s.listings place) false
+
+-- taken out there, it said no members of a group, or those who were in already, and a later card says them too
+abbrev pub leaves_members : Setters → ℕ → Spot → Bool
+leaves_members s place spot =
+    not (is_listed s place spot)
+    || (nat_lt (suc place) (length s.listings) && are_same_people (members_at s.listings place) (members_at s.listings (suc place)))
+
+-- taken out of a group, or of a thread, it leaves the roster as it is
+abbrev pub stays_without_in_group : Setters → Spot → Bool
+stays_without_in_group s spot =
+    is_after spot s.first && leaves_members s (place_of s.listings spot) spot && not (is_kept spot s.named) && not (is_kept spot s.timed)
+
+abbrev pub stays_without_in_thread : Setters → Spot → Bool
+stays_without_in_thread s spot = is_after spot s.first && not (list_any (spot_eq spot) s.joined) && not (is_kept spot s.timed)
 
 -- or of any chat that has other cards
-abbrev pub stays_without : ChatKey → Setters → At → Bool
-stays_without SelfChat s a = not (is_kept a.spot s.timed)
-stays_without (Single other) s a = not (is_kept a.spot s.timed)
-stays_without (Group g) s a = stays_without_in_group s a
-stays_without (Thread i) s a = stays_without_in_thread s a
+abbrev pub stays_without : ChatKey → Setters → Spot → Bool
+stays_without SelfChat s spot = not (is_kept spot s.timed)
+stays_without (Single other) s spot = not (is_kept spot s.timed)
+stays_without (Group g) s spot = stays_without_in_group s spot
+stays_without (Thread i) s spot = stays_without_in_thread s spot
+
+-- whom the card at a spot said is not kept at its place
+abbrev pub without_said : Setters → ℕ → Spot → Setters
+without_said s place spot = if is_listed s place spot then record s { listings = remove s.listings place } else s
+
+-- without the card, whom it said is not kept
+abbrev pub setters_taken : ChatKey → Setters → Spot → Setters
+setters_taken SelfChat s spot = s
+setters_taken (Single other) s spot = s
+setters_taken (Group g) s spot = without_said s (place_of s.listings spot) spot
+setters_taken (Thread i) s spot = s

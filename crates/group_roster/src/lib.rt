@@ -1,12 +1,17 @@
 //! The members, the name and the timer of a chat, card by card.
 #![tactic(auto)]
 
+mod changes;
+mod listings;
 mod roster;
 mod said;
+mod series;
 mod setters;
 mod stays;
 
+pub use changes::{put_in, take_out};
+pub use listings::Listing;
 pub use mailbox_model::Roster;
 pub use roster::{add, begin};
+pub use series::Series;
 pub use setters::{Setters, add_at};
-pub use stays::{stays_with, stays_without};

@@ -1,10 +1,13 @@
 //! The cards on which the roster of a chat rests, by their spots.
 ghost use Rattle.std.specs.Prelude.{◌≡◌, [], ◌∷◌, ◌++◌, List, Some, IfOk, OnOk, if◌then◌else◌, length, map, drop};
 ghost use Rattle.card_type.specs.Effects.{is_among};
-ghost use Rattle.group_roster.specs.Setters.{At, RestsOn, at, has_founder, is_thread, no_setters, setters_after, setters_after_member, setters_begun, setters_with};
+ghost use Rattle.group_roster.specs.Setters.{At, RestsOn, at, has_founder, is_group, is_thread, listing_of, no_setters, setters_after, setters_after_member, setters_begun, setters_with};
 ghost use Rattle.group_roster.specs.Standing.{roster_with};
 
+use crate::listings::Listing;
 use crate::roster::{add, changes_members, changes_name};
+use crate::said::listed;
+use crate::series::Series;
 use card_type::{Card, ChatKey, Spot};
 use kit::{Addr, Memory};
 use lists::Items;
@@ -17,8 +20,8 @@ use std::alloc::Global;
 pub struct Setters {
     /// The first card of a group or a thread.
     pub first: Option<Spot>,
-    /// The last card after the first that says the members of a group anew.
-    pub listed: Option<Spot>,
+    /// The cards that say the members of a group, in mail order: the first one, and the later ones of members.
+    pub listings: Series<Listing>,
     /// The last card after the first that says the name of a group anew.
     pub named: Option<Spot>,
     /// The last card that sets the timer.
@@ -34,7 +37,7 @@ impl Setters {
     {
         Setters {
             first: None,
-            listed: None,
+            listings: Series::new(alloc),
             named: None,
             timed: None,
             joined: Items::new(alloc),
@@ -52,12 +55,40 @@ fn has_founder(key: &ChatKey) -> bool
     }
 }
 
+/// Whether the chats of this key are groups.
+fn is_group(key: &ChatKey) -> bool
+    ensures { result ≡ is_group key.now }
+{
+    match key {
+        ChatKey::Group(_) => true,
+        ChatKey::SelfChat | ChatKey::Single(_) | ChatKey::Thread(_) => false,
+    }
+}
+
 /// Keeps the spot, where the card at it sets what is kept.
 fn keep(kept: &mut Option<Spot>, sets: bool, spot: &Spot) -> Result<(), Memory>
     ensures { OnOk result (kept.new ≡ (if sets then Some spot.now else kept.old)) }
 {
     if sets {
         *kept = Some(spot.copy()?);
+    }
+    Ok(())
+}
+
+/// Keeps whom the card at the spot says, where it says the members of a group.
+fn list(
+    alloc: Global,
+    listings: &mut Series<Listing>,
+    says: bool,
+    spot: &Spot,
+    card: &Card,
+) -> Result<(), Memory>
+    ensures { OnOk result (listings.new ≡ (if says then listings.old ++ listing_of (at spot.now card.now) ∷ [] else listings.old)) }
+{
+    if says {
+        let spot = spot.copy()?;
+        let members = listed(alloc, card)?;
+        listings.push(Listing { spot, members })?;
     }
     Ok(())
 }
@@ -88,21 +119,34 @@ fn first_setters(alloc: Global, key: &ChatKey, spot: &Spot, card: &Card) -> Resu
 {
     let mut setters = Setters::new(alloc);
     keep(&mut setters.first, has_founder(key), spot)?;
+    list(alloc, &mut setters.listings, is_group(key), spot, card)?;
     keep(&mut setters.timed, card.chat, spot)?;
     Ok(setters)
 }
 
 /// Notes what a further card of a group's member sets.
-fn note_of_member(setters: &mut Setters, spot: &Spot, card: &Card) -> Result<(), Memory>
+fn note_of_member(
+    alloc: Global,
+    setters: &mut Setters,
+    spot: &Spot,
+    card: &Card,
+) -> Result<(), Memory>
     ensures { OnOk result (setters.new ≡ setters_after_member setters.old (at spot.now card.now)) }
 {
-    keep(&mut setters.listed, changes_members(card), spot)?;
+    list(
+        alloc,
+        &mut setters.listings,
+        changes_members(card),
+        spot,
+        card,
+    )?;
     keep(&mut setters.named, changes_name(card), spot)?;
     keep(&mut setters.timed, card.chat, spot)
 }
 
 /// Notes what a further card of a group sets: a member's what it says anew, and a stranger's nothing.
 fn note_in_group(
+    alloc: Global,
     setters: &mut Setters,
     members: &[Addr],
     spot: &Spot,
@@ -111,13 +155,14 @@ fn note_in_group(
     ensures { OnOk result (setters.new ≡ (if is_among members.now card.now.from then setters_after_member setters.old (at spot.now card.now) else setters.old)) }
 {
     if members.contains(&card.from) {
-        return note_of_member(setters, spot, card);
+        return note_of_member(alloc, setters, spot, card);
     }
     Ok(())
 }
 
 /// Notes what a further card sets, but for who joined by it; the roster is that before it.
 fn note_further(
+    alloc: Global,
     setters: &mut Setters,
     key: &ChatKey,
     roster: &Roster,
@@ -127,7 +172,9 @@ fn note_further(
     ensures { OnOk result (setters.new ≡ record (setters_after key.now roster.now setters.old (at spot.now card.now)) { joined = setters.old.joined }) }
 {
     match key {
-        ChatKey::Group(_) => note_in_group(setters, roster.members.as_slice(), spot, card),
+        ChatKey::Group(_) => {
+            note_in_group(alloc, setters, roster.members.as_slice(), spot, card)
+        }
         ChatKey::SelfChat | ChatKey::Single(_) | ChatKey::Thread(_) => {
             keep(&mut setters.timed, card.chat, spot)
         }
@@ -162,7 +209,7 @@ fn note(
         { joined = if roster.now.begun then setters.old.joined else [] }) }
 {
     if roster.begun {
-        return note_further(setters, key, roster, spot, card);
+        return note_further(alloc, setters, key, roster, spot, card);
     }
     *setters = first_setters(alloc, key, spot, card)?;
     Ok(())

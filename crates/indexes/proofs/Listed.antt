@@ -27,7 +27,8 @@ use Rattle.mailbox_model.proofs.ListLaws.{key_same, key_self, key_turn, rows_all
 use Rattle.mailbox_model.proofs.StateLaws.{time_is}
 use Rattle.chat_view.specs.declared.state.ChatState.{ChatState}
 use Rattle.indexes.specs.Costs.{chat_cost, list_cost}
-use Rattle.indexes.specs.Kept.{AreDated, AreStates, date_at, last_date}
+use Rattle.chat_view.specs.Standing.{last_date}
+use Rattle.indexes.specs.Kept.{AreDated, AreStates, date_at}
 use Rattle.indexes.proofs.Paged.{some_from, state_from}
 
 -- ---- lists in one strict order that have the same elements are one

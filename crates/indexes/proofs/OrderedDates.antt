@@ -21,7 +21,8 @@ use Rattle.chat_view.specs.declared.state.ChatState.{ChatState}
 use Rattle.chatlist.specs.Places.{with_place}
 use Rattle.mailbox_model.specs.ChatList.{Dated}
 use Rattle.mailbox_model.proofs.ListLaws.{key_same, key_self}
-use Rattle.indexes.specs.Kept.{date_at, last_date}
+use Rattle.chat_view.specs.Standing.{last_date}
+use Rattle.indexes.specs.Kept.{date_at}
 use Rattle.indexes.proofs.Ordered.{date_with}
 
 -- ---- no key comes twice where keys rise

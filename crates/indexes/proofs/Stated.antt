@@ -7,6 +7,7 @@ use Rattle.card_type.specs.declared.key.ChatKey.{ChatKey}
 use Rattle.card_type.specs.Keys.{key_cmp, key_eq}
 use Rattle.card_type.proofs.Orders.{keys_total}
 use Rattle.chat_view.specs.declared.state.ChatState.{ChatState}
+use Rattle.chat_view.specs.Changes.{AreFew}
 use Rattle.chat_view.specs.Standing.{StandsFor, state_of}
 use Rattle.mailbox_model.specs.Lists.{Bytes}
 use Rattle.mailbox_model.specs.States.{Shown}
@@ -35,10 +36,10 @@ module _ {X : Type 0} (before left after : map_of.FinMap key_cmp X) (key : ChatK
 pub one_of_key : (me : Bytes) (key : ChatKey) (cards : List Shown) (x : ChatState) → x ≡ state_of me key cards → StandsFor me cards x
 one_of_key me key cards x is = is ∙ ap (λ k. state_of me k cards) (sym (ap (λ (s : ChatState). s.key) is))
 
-pub state_with : (me : Bytes) (key : ChatKey) (cards more : List Shown) (x y : ChatState) → x ≡ state_of me key cards → y.key ≡ x.key
-    → ((some : List Shown) → StandsFor me some x → StandsFor me (some ++ more) y) → y ≡ state_of me key (cards ++ more)
-state_with me key cards more x y is same added =
-    added cards (one_of_key me key cards x is)
+pub state_with : (me : Bytes) (key : ChatKey) (cards more : List Shown) (x y : ChatState) → x ≡ state_of me key cards → AreFew cards → y.key ≡ x.key
+    → ((some : List Shown) → AreFew some → StandsFor me some x → StandsFor me (some ++ more) y) → y ≡ state_of me key (cards ++ more)
+state_with me key cards more x y is few same added =
+    added cards few (one_of_key me key cards x is)
     ∙ ap (λ k. state_of me k (cards ++ more)) (same ∙ ap (λ (s : ChatState). s.key) is)
 
 -- a state that was there, or was begun

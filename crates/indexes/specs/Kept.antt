@@ -17,7 +17,7 @@ use Rattle.mailbox_model.specs.Pages.{keys}
 use Rattle.mailbox_model.specs.Rows.{expiry, row}
 use Rattle.mailbox_model.specs.States.{shown_as}
 use Rattle.chat_view.specs.declared.state.ChatState.{ChatState}
-use Rattle.chat_view.specs.Standing.{state_of}
+use Rattle.chat_view.specs.Standing.{last_date, state_of}
 use Rattle.thread_links.specs.Linked.{cites_among}
 use Rattle.effects.specs.Named.{StandsFor as AreEffects}
 use Rattle.contacts.specs.Kept.{times_in, StandsFor as AreContacts}
@@ -78,10 +78,6 @@ abbrev pub AreDeadlines : Mailbox → List Mail → List (ℕ × ℕ) → Type 0
 AreDeadlines m ts deadlines = (uid : ℕ) → deadline_at deadlines uid ≡ deadline_among m ts uid
 
 -- ---- the order of chats
-
--- the date of the last shown row
-abbrev pub last_date : ChatState → Option ℕ
-last_date state = option_map (λ spot. spot.date) state.last
 
 -- the date that is kept of a chat
 abbrev pub date_at : List Dated → ChatKey → Option (Option ℕ)

@@ -186,8 +186,7 @@ fn order_of(alloc: Global, chats: &KeyMap<ChatState>) -> Result<ChatList, Memory
 {
     let mut order = ChatList::new(alloc);
     for (key, state) in chats.iter() {
-        let date = state.last.as_ref().map(|spot| spot.date);
-        order.set(key, date)?;
+        order.set(key, state.last_date())?;
     }
     Ok(order)
 }

@@ -3,7 +3,7 @@ use crate::made::{addr, key, spot};
 use crate::rosters::{BY_BOB, G1, G2, G3, Said, card};
 use card_type::{Card, ChatKey, Spot};
 use chat_view::{ChatState, Mark};
-use group_roster::{Roster, Setters};
+use group_roster::{Listing, Roster, Setters};
 use kit::Addr;
 use lists::Items;
 use std::alloc::Global;
@@ -22,7 +22,7 @@ const BY_CID: Said<'static> = Said {
 const BY_HAND: Said<'static> = Said { chat: false, ..G1 };
 
 /// The cards of a group, in mail order.
-const GROUP: [Step<'static>; 11] = [
+const GROUP: [Step<'static>; 12] = [
     // The first one says all.
     (G1, false, false),
     (
@@ -35,6 +35,15 @@ const GROUP: [Step<'static>; 11] = [
     ),
     // Who is a member then, the next ones follow.
     (G2, false, false),
+    // The same members in another order.
+    (
+        Said {
+            to: &["cid@x.org", "me@x.org", "bob@x.org"],
+            ..G2
+        },
+        true,
+        true,
+    ),
     (
         Said {
             name: "Trip 2",
@@ -44,15 +53,15 @@ const GROUP: [Step<'static>; 11] = [
         true,
         true,
     ),
-    // Of a stranger, which can't be told before the last card that says the members.
+    // Of a stranger, who sets nothing.
     (
         Said {
             from: "eve@x.org",
             added: Some("eve@x.org"),
             ..G1
         },
-        false,
-        false,
+        true,
+        true,
     ),
     (G3, false, false),
     // The last name that a member gives.
@@ -293,9 +302,15 @@ fn same_roster(one: &Roster, other: &Roster) -> bool {
         && one.timer == other.timer
 }
 
+fn same_listings(one: &[Listing], other: &[Listing]) -> bool {
+    one.len() == other.len()
+        && one.iter().zip(other).all(|(one, other)| one.spot == other.spot
+            && one.members == other.members)
+}
+
 fn same_setters(one: &Setters, other: &Setters) -> bool {
     one.first == other.first
-        && one.listed == other.listed
+        && same_listings(one.listings.as_slice(), other.listings.as_slice())
         && one.named == other.named
         && one.timed == other.timed
         && one.joined == other.joined
@@ -322,7 +337,7 @@ fn take_out(state: &mut ChatState, card: &Placed) -> Result<bool, Fail> {
     if state.spots.len() > 100 {
         return Err(Fail::from("too many spots"));
     }
-    Ok(state.take_out(&card.spot, &card.card)?)
+    Ok(state.take_out(&card.spot)?)
 }
 
 fn remark(state: &mut ChatState, spot: &Spot, mark: Option<Mark>) -> Result<(), Fail> {

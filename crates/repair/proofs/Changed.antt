@@ -64,27 +64,6 @@ module _ (now : List Cites) where
           ap (λ b. (b && not (option_eq key_eq e.1 (chat_among now e.0))) || list_any (is_changed now id) es) h ∙ later
           ∙ ap (λ o. not (option_eq key_eq (unwrap_or o (chat_among now id)) (chat_among now id))) (sym (ap (λ b. cond b (Some e.1) (lookup (bytes_eq id) es)) h))
 
--- ---- one entry more
-
-looked : (keys : List Bytes) (id : Bytes) → list_any (is_at (slice_cmp nat_cmp id)) keys ≡ list_any (bytes_eq id) keys
-looked [] id = refl
-looked (k ∷ keys) id = λ i. is_eq-slice_cmp id k i || looked keys id i
-
--- an id is put among others
-pub put_in : (before after : List Bytes) (key : Bytes)
-    → ((q : Bytes) → list_any (is_at (slice_cmp nat_cmp q)) after ≡ cond (is_at (slice_cmp nat_cmp key) q) true (list_any (is_at (slice_cmp nat_cmp q)) before))
-    → (id : Bytes) → list_any (bytes_eq id) after ≡ (list_any (bytes_eq id) before || bytes_eq id key)
-put_in before after key updates id =
-    sym (looked after id) ∙ updates id
-    ∙ (λ i. cond ((is_eq-slice_cmp key id ∙ bytes_turn key id) i) true (looked before id i))
-    ∙ either (bytes_eq id key) (list_any (bytes_eq id) before)
-  where
-    either : (a b : Bool) → cond a true b ≡ (b || a)
-    either true true = refl
-    either true false = refl
-    either false true = refl
-    either false false = refl
-
 -- two chats that are lent are compared as they are
 pub lent_chats : (a b : Option (Bor ChatKey)) → option_eq (λ x y. key_eq x.now y.now) a b ≡ option_eq key_eq (option_copied a) (option_copied b)
 lent_chats None None = refl

@@ -5,7 +5,8 @@ ghost use Rattle.std.specs.List.Sorted.{IsStrictlySortedBy};
 ghost use Rattle.card_type.specs.declared.key.ChatKey.{ChatKey};
 ghost use Rattle.card_type.specs.Keys.{key_cmp, key_eq};
 ghost use Rattle.chat_states.specs.States.{has_key};
-ghost use Rattle.indexes.specs.Kept.{AreDated, date_at, last_date};
+ghost use Rattle.chat_view.specs.Standing.{last_date};
+ghost use Rattle.indexes.specs.Kept.{AreDated, date_at};
 
 use card_type::{ChatKey, KeyMap};
 use chat_states::KeySet;
@@ -20,7 +21,7 @@ fn renew_place(order: &mut ChatList, chats: &KeyMap<ChatState>, key: &ChatKey) -
         ≡ (if key_eq key.now other then option_map last_date (map_of.get chats.now key.now) else date_at order.old other)) }
 {
     match chats.get(key) {
-        Some(state) => order.set(key, state.last.as_ref().map(|spot| spot.date)),
+        Some(state) => order.set(key, state.last_date()),
         None => {
             order.drop_key(key);
             Ok(())

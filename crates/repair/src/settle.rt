@@ -99,13 +99,12 @@ fn remark<L: Ledger>(
 }
 
 /// Takes the card with an id out of the chat in which it was.
-fn leave<L: Ledger>(
+fn take_from_chat(
     mailbox: &Mailbox,
     indexes: &mut Indexes,
     unsettled: &mut KeySet,
     place: &Option<Place<'_>>,
     id: &Id,
-    steps: &mut Steps<L>,
 ) -> Result<(), Memory>
     requires place { IsPlace mailbox.now.mailbox id.now place.now }
     ensures states { OnOk result ((me : Bytes) (family : Family) → AreSmall family
@@ -117,20 +116,16 @@ fn leave<L: Ledger>(
     ensures timers { OnOk result ((uid : ℕ) → deadline_at indexes.new.timers uid
         ≡ (if has_uid_at mailbox.now.mailbox id.now uid then None else deadline_at indexes.old.timers uid)) }
     ensures rest { OnOk result (indexes.new ≡ record indexes.old { chats = indexes.new.chats; timers = indexes.new.timers }) }
-    ensures cost { steps.new ≤ steps.old + option_map_or (λ t. 1) (content_at mailbox.now.mailbox id.now) 0 }
 {
-    // For its clause `rules`: the mailbox keeps the rules of one.
-    let _me = mailbox.me();
     let Some(place) = place else {
         return Ok(());
     };
-    let card = mailbox.card(place.spot.uid, steps).unwrap();
     indexes.timers.drop_of(place.spot.uid);
-    take(&mut indexes.chats, unsettled, &place.chat, place.spot, card)
+    take(&mut indexes.chats, unsettled, &place.chat, place.spot)
 }
 
 /// Puts the card with an id into the chat in which it is.
-fn come<L: Ledger>(
+fn put_into_chat<L: Ledger>(
     alloc: Global,
     view: &View<'_>,
     indexes: &mut Indexes,
@@ -209,8 +204,8 @@ pub(crate) fn settle<L: Ledger>(
     if is_same(&before, &after) {
         return remark(alloc, view, indexes, &after, id, steps);
     }
-    leave(mailbox, indexes, &mut noted.unsettled, &before, id, steps)?;
-    come(
+    take_from_chat(mailbox, indexes, &mut noted.unsettled, &before, id)?;
+    put_into_chat(
         alloc,
         view,
         indexes,

@@ -15,7 +15,7 @@ returns-clause-others c =
     at_other c.args.chats.now c.remove.new.self key c.remove.ensures.after c.insert.new.self c.take_from.new.state put
 
 pub returns-clause-states : goal.returns-clause-states
-returns-clause-states c me family mark small there are =
+returns-clause-states c me family card mark small there are =
     let key = c.args.key.now in
     let spot = c.args.spot.now in
     let old = has_key c.args.unsettled.now in
@@ -25,6 +25,6 @@ returns-clause-states c me family mark small there are =
     family spot.id None
     (λ has.
     let follows = (subst (Has me key (old key) (family key)) (sym c.remove.ensures.before ∙ c.in-Some.is) has).0 in
-    take_has me key (old key) (new key) (family key) small c.in-Some.state c.take_from.new.state follows c.in_ok-take_from.ensures.key spot c.args.card.now mark there
-    (λ before after few order was. c.in_ok-take_from.ensures.follows me before after mark few order was))
+    take_has me key (old key) (new key) (family key) small c.in-Some.state c.take_from.new.state follows c.in_ok-take_from.ensures.key spot card mark there
+    (λ before after few order was. c.in_ok-take_from.ensures.follows me before after card mark few order was))
     are

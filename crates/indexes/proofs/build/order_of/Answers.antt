@@ -1,4 +1,4 @@
-use Rattle.std.proofs.Common.{◌≡◌, sym, ap, ◌∙◌, rules, tests, [], ◌∷◌, map}
+use Rattle.std.proofs.Common.{◌≡◌, sym, ap, ◌∙◌, [], ◌∷◌, map}
 use Rattle.std.specs.FinMap as map_of
 use Rattle.std.specs.Option.{option_map}
 use Rattle.std.specs.Map.Iter.{deref_pair}
@@ -6,7 +6,8 @@ use Rattle.std.proofs.lemmas.List.{map-append}
 use Rattle.std.proofs.lemmas.Map.Iter.{iter_end}
 use Rattle.card_type.specs.Keys.{key_cmp}
 use Rattle.chatlist.specs.Places.{with_place}
-use Rattle.indexes.specs.Kept.{date_at, last_date}
+use Rattle.chat_view.specs.Standing.{last_date}
+use Rattle.indexes.specs.Kept.{date_at}
 use Rattle.indexes.proofs.OrderedDates.{dates_more, walk_rises}
 use Rattle.indexes.proofs.build.order_of.Goals as goal
 
@@ -16,7 +17,7 @@ loop-key-init c key = ap (λ order. date_at order key) c.new-order.ensures
 pub loop-key-preserved : goal.loop-key-preserved
 loop-key-preserved c =
     let before = map deref_pair c.loop-key.yielded in
-    let date : c.map-date.result ≡ last_date c.in-Some.state.now = search (rules, tests) in
+    let date = c.last_date.ensures in
     let rises = walk_rises key_cmp c.args.chats.now c.into_iter-key-iterator.result c.loop-key.key-iterator c.next.new.self (c.into_iter-key-iterator.ensures.into_iter_gives ∙ c.iter-key-items.ensures.rest) c.loop-key.yielded c.loop-key.yielded_by c.next.result (c.in-Some.key, c.in-Some.state) c.in-Some.is c.next.ensures.steps in
     λ other.
     ap (λ order. date_at order other) (c.in_ok-set.ensures.ok ∙ ap (λ date. with_place c.in-Some.key.now date c.loop-key.order) date)

@@ -4,7 +4,8 @@ use Rattle.std.specs.FinMap as map_of
 use Rattle.std.specs.Option.{option_map}
 use Rattle.card_type.specs.declared.key.ChatKey.{ChatKey}
 use Rattle.chat_states.specs.States.{has_key}
-use Rattle.indexes.specs.Kept.{date_at, last_date}
+use Rattle.chat_view.specs.Standing.{last_date}
+use Rattle.indexes.specs.Kept.{date_at}
 use Rattle.repair.proofs.order.renew_places.Given as goal
 
 -- the chats so far are at their places, and the others where they were

@@ -39,16 +39,16 @@ returns-clause-between g c =
     let m = c.args.mailbox.now.mailbox in
     let n = c.args.view.now in
     let id = c.args.id.now in
-    let left = c.in_ok-leave.ensures in
+    let left = c.in_ok-take_from_chat.ensures in
     let unchanged = c.in_ok-note-2.ensures.unsettled ∙ c.in_ok-note.ensures.unsettled in
-    let noted = record c.note-2.new.self { unsettled = c.come.new.unsettled } in
+    let noted = record c.note-2.new.self { unsettled = c.put_into_chat.new.unsettled } in
     let both = touched g (goal.at.returns-clause-between g c).In_ok-note-2 in
-    let made = c.come.ensures in
-    on_ok_five c.come.result made.states made.others made.notes made.timers made.rest (λ states others notes timers rest pending start new kept.
+    let made = c.put_into_chat.ensures in
+    on_ok_five c.put_into_chat.result made.states made.others made.notes made.timers made.rest (λ states others notes timers rest pending start new kept.
     moved m n c.me-me.ensures.rules c.me-me_after.ensures.rules c.requires.uids id pending new c.args.noted.now noted start
-    c.args.indexes.now c.come.new.indexes kept both (rest_through c.args.indexes.now c.leave.new.indexes c.come.new.indexes left.rest rest)
-    c.leave.new.indexes c.note-2.new.self.unsettled c.leave.new.unsettled unchanged
+    c.args.indexes.now c.put_into_chat.new.indexes kept both (rest_through c.args.indexes.now c.take_from_chat.new.indexes c.put_into_chat.new.indexes left.rest rest)
+    c.take_from_chat.new.indexes c.note-2.new.self.unsettled c.take_from_chat.new.unsettled unchanged
     left.states states left.others others left.notes notes left.timers timers)
 
 pub returns-clause-touched : goal.returns-clause-touched
-returns-clause-touched g c = on_ok_of c.come.result (touched g (goal.at.returns-clause-touched g c).In_ok-note-2)
+returns-clause-touched g c = on_ok_of c.put_into_chat.result (touched g (goal.at.returns-clause-touched g c).In_ok-note-2)

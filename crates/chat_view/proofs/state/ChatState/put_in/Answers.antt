@@ -6,10 +6,11 @@ use Rattle.std.proofs.lemmas.Result.{IfOk-weaker}
 use Rattle.card_type.specs.Spots.{spot_cmp}
 use Rattle.card_type.proofs.Orders.{spots_total}
 use Rattle.group_roster.specs.Setters.{at, stays_with}
+use Rattle.group_roster.proofs.Clauses.{both_clauses}
 use Rattle.sorted_lists.proofs.Searches.{searched}
 use Rattle.chat_view.specs.Changes.{AreFew}
 use Rattle.chat_view.specs.Standing.{StandsFor, shown}
-use Rattle.chat_view.proofs.Changed.{both_clauses, few_without, put_last, put_place, put_stands, on_ok_each}
+use Rattle.chat_view.proofs.Changed.{few_without, put_last, put_place, put_stands, on_ok_each}
 use Rattle.chat_view.proofs.Placed.{all_below, none_ties, one_above}
 use Rattle.chat_view.proofs.Told.{marked_from}
 use Rattle.chat_view.proofs.state.ChatState.put_in.Goals as goal

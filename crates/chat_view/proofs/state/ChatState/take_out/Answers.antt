@@ -7,9 +7,10 @@ use Rattle.card_type.specs.Spots.{spot_cmp}
 use Rattle.card_type.proofs.Orders.{spots_total}
 use Rattle.std.proofs.lemmas.Bool.{and_parts, ltb-true}
 use Rattle.std.proofs.lemmas.Result.{IfOk-weaker}
-use Rattle.group_roster.specs.Setters.{at, stays_without}
+use Rattle.group_roster.specs.Setters.{stays_without}
+use Rattle.group_roster.proofs.Clauses.{both_clauses}
 use Rattle.chat_view.specs.Standing.{StandsFor, shown}
-use Rattle.chat_view.proofs.Changed.{both_clauses, few_with, taken_stands, there_place}
+use Rattle.chat_view.proofs.Changed.{few_with, taken_stands, there_place}
 use Rattle.chat_view.proofs.Told.{marked_from}
 use Rattle.sorted_lists.proofs.Searches.{searched}
 use Rattle.chat_view.proofs.state.ChatState.take_out.Goals as goal
@@ -31,21 +32,20 @@ returns-in-Ok-clause-when c =
     let found = subst (λ xs. IsBinarySearchResult (λ y. spot_cmp y spot) xs c.binary_search.result) c.as_slice.ensures c.binary_search.ensures.position in
     IfOk-weaker c.take_at.result _ _ (λ taken is sorted.
     let there = sym (searched spot_cmp spots_total spot state.spots c.binary_search.result sorted range found) ∙ ap is_ok c.in-Ok.is in
-    is ∙ sym (ap (λ b. b && nat_lt 1 (length state.spots) && stays_without state.key state.setters (at spot c.args.card.now)) there))
+    is ∙ sym (ap (λ b. b && nat_lt 1 (length state.spots) && stays_without state.key state.setters spot) there))
     c.take_at.ensures.when
 
 pub returns-in-Ok-clause-taken : goal.returns-in-Ok-clause-taken
 returns-in-Ok-clause-taken c =
     let state = c.args.self.now in
     let spot = c.args.spot.now in
-    let card = c.args.card.now in
     let i = c.in-Ok.index in
     let within : i < length state.spots = subst (λ xs. i < length xs) c.as_slice.ensures c.in-Ok.ensures.bound in
     let found : HoldsAt (λ y. spot_cmp y spot ≡ Equal) state.spots i = subst (λ xs. HoldsAt (λ y. spot_cmp y spot ≡ Equal) xs i) c.as_slice.ensures c.in-Ok.ensures.ok in
-    both_clauses c.take_at.result _ _ _ (λ taken when out yes me before after mark few order is.
+    both_clauses c.take_at.result _ _ _ (λ taken when out yes me before after card mark few order is.
     let marked = marked_from me (before ++ shown spot card mark ∷ after) state is in
     let place = there_place before spot card mark after state marked.spots order i within found in
-    let parts = and_parts (nat_lt 1 (length state.spots)) (stays_without state.key state.setters (at spot card)) (sym when ∙ yes) in
+    let parts = and_parts (nat_lt 1 (length state.spots)) (stays_without state.key state.setters spot) (sym when ∙ yes) in
     subst (StandsFor me (before ++ after)) (sym (out yes (few_with before spot card mark after state marked few)))
     (taken_stands before spot card mark after state i place me is order (ltb-true 1 (length state.spots) parts.0) parts.1))
     c.take_at.ensures.when c.take_at.ensures.taken

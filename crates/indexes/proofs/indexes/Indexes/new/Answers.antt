@@ -2,7 +2,8 @@ use Rattle.std.proofs.Common.{sym, ap, ◌∙◌}
 use Rattle.std.specs.FinMap.{get, get-empty}
 use Rattle.std.specs.Option.{option_map}
 use Rattle.card_type.specs.Keys.{key_cmp}
-use Rattle.indexes.specs.Kept.{date_at, last_date}
+use Rattle.chat_view.specs.Standing.{last_date}
+use Rattle.indexes.specs.Kept.{date_at}
 use Rattle.indexes.proofs.indexes.Indexes.new.Goals as goal
 
 pub returns-clause-states : goal.returns-clause-states

@@ -11,7 +11,8 @@ use Rattle.mailbox_model.specs.Lists.{Bytes}
 use Rattle.mailbox_model.specs.Chats.{chat_among}
 use Rattle.repair.specs.Moves.{chat_before}
 use Rattle.repair.proofs.Noted.{Entries}
-use Rattle.repair.proofs.Changed.{is_changed, changed_among, put_in, lent_chats, one_changed, one_same}
+use Rattle.repair.proofs.Changed.{is_changed, changed_among, lent_chats, one_changed, one_same}
+use Rattle.repair.proofs.Sets.{id_more}
 use Rattle.repair.proofs.moves.Moves.changed.Goals as goal
 use Rattle.repair.proofs.moves.Moves.changed.Goals.{After-ne}
 
@@ -28,7 +29,7 @@ loop-id-preserved-in_ok-insert c id =
     let seen = map deref_pair c.loop-id.yielded in
     let e : Bytes × Option ChatKey = (c.in-Some.id.now, c.in-Some.before.now) in
     let keys = c.loop-id.ids.keys in
-    let put = put_in keys c.insert.new.self.keys c.in_ok-copy.field-0 c.in_ok-insert.ensures.updates.0 in
+    let put = id_more keys c.insert.new.self.keys c.in_ok-copy.field-0 c.in_ok-insert.ensures.updates.0 in
     one_changed now c.args.ids.now.keys keys seen e c.loop-id.invariant (sym (differs (goal.at.loop-id-preserved-in_ok-insert c).After-ne) ∙ c.if-ne.true) c.insert.new.self.keys
     (λ q. put q ∙ ap (λ k. list_any (bytes_eq q) keys || bytes_eq q k) c.in_ok-copy.ensures) id
     ∙ ap (λ es. list_any (bytes_eq id) c.args.ids.now.keys || list_any (is_changed now id) es) (sym (map-append deref_pair c.loop-id.yielded ((c.in-Some.id, c.in-Some.before) ∷ [])))

@@ -7,7 +7,7 @@ use Rattle.chat_view.specs.Standing.{shown}
 use Rattle.indexes.specs.Kept.{deadline_among, deadline_at}
 use Rattle.repair.proofs.Contents.{placed, unplaced}
 use Rattle.repair.proofs.OneId.{came, no_uid, none_came, reads, there_too}
-use Rattle.repair.proofs.settle.come.Goals as goal
+use Rattle.repair.proofs.settle.put_into_chat.Goals as goal
 
 pub returns-in_default-clause-timers : goal.returns-in_default-clause-timers
 returns-in_default-clause-timers g c uid =
