@@ -5,7 +5,6 @@ ghost use Rattle.outside.specs.Places.{Places};
 ghost use Rattle.state_store.specs.Stored.{IsStored};
 ghost use Rattle.keeper.specs.Keeping.{IsKept};
 
-use crate::slots::{CRASHES, with_byte};
 use keeper::{KeepFault, Keeper};
 use kit::{Addr, Steps};
 use mailbox_model::Change;
@@ -16,6 +15,7 @@ use std::alloc::Global;
 use std::marker::Brand;
 use std::sync::ledger::{Blank, Ledger};
 use std::test::Fail;
+use worked_state::{CRASHES, with_byte};
 
 /// The moment of each change.
 const MOMENT: u64 = 1_714_564_800;

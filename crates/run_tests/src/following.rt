@@ -8,7 +8,6 @@ ghost use Rattle.keeper.specs.Keeping.{IsKept};
 use crate::commits::{BOB, CALLS, GROUP, ME, SLOT, shelf_of};
 use crate::rows::mbox_of;
 use crate::runs::{NEVER, empty_shelf, source};
-use crate::slots::{CRASHES, first_write, with_byte};
 use follower::{Follower, Input, Position, RunFault, Turned, commit_if_full};
 use kit::{Addr, Steps};
 use outside::{MemorySource, Place, Shelf};
@@ -18,6 +17,7 @@ use std::marker::Brand;
 use std::sync::ledger::{Blank, Ledger};
 use std::test::Fail;
 use worked_mails::{E1, M1, M2};
+use worked_state::{CRASHES, first_write, with_byte};
 
 /// The moment of each change that is one.
 const MOMENT: u64 = 1_714_564_800;

@@ -1,22 +1,26 @@
 //! Runs over one shelf, of which each goes on from what the one before kept: the bytes on the shelf, and what is put.
 use crate::rows::{CHATS, COPY, MEMBERS, PARENT, Row, TIMER, mbox_of};
 use crate::runs::{
-    DISK, LIST, M1, M1_LINE, NEVER, READ, empty_shelf, ended_by, ended_over, shelf_with, source,
+    DISK, LIST, M1, M1_LINE, NEVER, READ, ROOM, empty_shelf, ended_by, ended_over, shelf_with,
+    source,
 };
-use crate::slots::{CRASHES, M1_IMAGE, called, first_write, save, slot, with_byte};
-use crate::tail::groups_from;
 use follow::Status;
 use outside::{FixedClock, Place};
 use shelves::{Crash, Did, MemoryShelf, ShelfCall};
 use std::alloc::Global;
 use std::process::Abort;
 use std::test::Fail;
+use worked_state::{CRASHES, M1_IMAGE, first_write, slot, with_byte};
 
 /// How many calls of the shelf a run makes that finds nothing and commits once.
 const CALLS: u64 = 18;
 
 /// The gate, the number and the length of the slot that the first run saves.
 const HEAD: &[u8] = b"\x01\0\0\0\0\0\0\0\x02\0\0\0\0\0\0\0\xbe";
+
+/// The group of a moment that the second run appends, after two changes and at the end of the mbox.
+const MOMENT: &[u8] =
+    b"\x01\0\0\0\0\0\0\0\x02\0\0\0\x23\0\x01\0\0\0\0\0\0\0\x7e\0\0\0\0\0\0\0\0\0\0\0\0\0\0\0\0\x05\0\0\0\0\x66\x32\x2e\xc0";
 
 /// How the list of one plain mail ends over a shelf, and what it puts.
 fn list(alloc: Global, shelf: &mut MemoryShelf) -> Result<(Status, String), Fail> {
@@ -62,8 +66,7 @@ fn the_second_run_appends_a_moment(rt: HostRuntime) -> Result<(), Fail> {
     assert_eq!(rt; (end, text.as_str()), (Status::Ok, M1_LINE));
     assert_eq!(rt; shelf.bytes(Place::A).len(), 207);
     assert_eq!(rt; shelf.bytes(Place::B).len(), 0);
-    let group = groups_from(alloc, &[2])?;
-    assert_eq!(rt; shelf.bytes(Place::T), group.as_slice());
+    assert_eq!(rt; shelf.bytes(Place::T), MOMENT);
     assert_eq!(rt; shelf.bytes(Place::T).len(), 48);
     Ok(())
 }
@@ -92,16 +95,26 @@ fn the_first_run_is_stopped_at_each_call_and_made_again(rt: HostRuntime) -> Resu
     Ok(())
 }
 
+/// The first byte and the number of bytes of a write to A.
+fn write_to_a(write: Option<ShelfCall>) -> Option<(u64, u64)> {
+    let write = write?;
+    if write.did == Did::Write && write.place == Place::A {
+        Some((write.at, write.len))
+    } else {
+        None
+    }
+}
+
 /// What a first run leaves in A that was stopped at a call and torn to bytes 1, and the first write of a run after it that
 /// ends well.
-fn torn(alloc: Global, stop: u64) -> Result<(Vec<u8>, Option<ShelfCall>), Fail> {
+fn torn(alloc: Global, stop: u64) -> Result<(Vec<u8>, Option<(u64, u64)>), Fail> {
     let mut shelf = shelf_with(alloc, &[], NEVER, Some(stop))?;
     let (stopped, _) = list(alloc, &mut shelf)?;
     let mut left = shelf.crash(Crash::Ones)?;
     let bytes = left.bytes(Place::A).to_vec(alloc)?;
     let (end, text) = list(alloc, &mut left)?;
     if stopped == Status::Disk && end == Status::Ok && text.as_str() == M1_LINE {
-        Ok((bytes, first_write(&left)))
+        Ok((bytes, write_to_a(first_write(&left))))
     } else {
         Err(Fail::from("not stopped or not made again"))
     }
@@ -111,7 +124,7 @@ fn torn(alloc: Global, stop: u64) -> Result<(Vec<u8>, Option<ShelfCall>), Fail> 
 fn a_gate_that_was_torn_to_1_is_closed(rt: HostRuntime) -> Result<(), Fail> {
     let (bytes, write) = torn(rt.alloc(), 10)?;
     assert_eq!(rt; bytes.as_slice(), [1].as_slice());
-    assert_eq!(rt; write, Some(called(Did::Write, Place::A, 0, 1)));
+    assert_eq!(rt; write, Some((0, 1)));
     Ok(())
 }
 
@@ -120,24 +133,34 @@ fn a_gate_that_is_closed_over_a_torn_body_is_left(rt: HostRuntime) -> Result<(),
     let (bytes, write) = torn(rt.alloc(), 14)?;
     assert_eq!(rt; bytes.len(), 207);
     assert_eq!(rt; bytes.get(..2), Some([0, 1].as_slice()));
-    assert_eq!(rt; write, Some(called(Did::Write, Place::A, 1, 8)));
+    assert_eq!(rt; write, Some((1, 8)));
     Ok(())
+}
+
+/// A shelf of two slots and a tail that were kept.
+fn shelf_of_slots(alloc: Global, a: &[u8], b: &[u8], tail: &[u8]) -> Result<MemoryShelf, Fail> {
+    if a.len() > ROOM || b.len() > ROOM || tail.len() > ROOM {
+        return Err(Fail::from("no room"));
+    }
+    let fails = Vec::new(alloc);
+    Ok(MemoryShelf::new(alloc, a, b, tail, ROOM, 128, fails, None)?)
 }
 
 #[test]
 fn a_group_that_a_slot_holds_already_is_skipped(rt: HostRuntime) -> Result<(), Fail> {
     let alloc = rt.alloc();
-    let mut shelf = after_first_run(alloc)?;
-    list(alloc, &mut shelf)?;
     // The last byte of the image's count.
     let image = with_byte(alloc, M1_IMAGE, 27, 4)?;
-    assert!(rt; save(alloc, &mut shelf, 4, &image));
-    let saved = slot(alloc, 1, 4, &image)?;
-    assert_eq!(rt; shelf.bytes(Place::B), saved.as_slice());
+    let first = slot(alloc, 1, 2, M1_IMAGE)?;
+    let later = slot(alloc, 1, 4, &image)?;
+    let mut shelf = shelf_of_slots(alloc, &first, &later, MOMENT)?;
     let (end, text) = list(alloc, &mut shelf)?;
     assert_eq!(rt; (end, text.as_str()), (Status::Ok, M1_LINE));
-    let groups = groups_from(alloc, &[2, 4])?;
-    assert_eq!(rt; shelf.bytes(Place::T), groups.as_slice());
+    let tail = shelf.bytes(Place::T);
+    assert_eq!(rt; tail.get(..48), Some(MOMENT));
+    // The last byte of the count that it goes on from.
+    let next = with_byte(alloc, MOMENT, 8, 4)?;
+    assert_eq!(rt; tail.get(48..), Some(next.as_slice()));
     Ok(())
 }
 

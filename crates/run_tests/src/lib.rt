@@ -1,35 +1,23 @@
-//! Tests of the devices, of images, of slots, of the tail, of the keeper, of the follower, of trials, of whole runs, and of
-//! runs that go on from what is kept. It has no code of its own.
+//! Tests of the keeper, of the follower, of trials, of whole runs, and of runs that go on from what is kept. It has no code of
+//! its own.
 #![tactic(auto)]
 
 #[cfg(test)]
 mod commits;
 #[cfg(test)]
-mod devices;
-#[cfg(test)]
-mod disk_model;
-#[cfg(test)]
 mod following;
 #[cfg(test)]
 mod full_tail;
 #[cfg(test)]
-mod images;
-#[cfg(test)]
 mod kept;
-#[cfg(test)]
-mod real_files;
 #[cfg(test)]
 mod rows;
 #[cfg(test)]
 mod runs;
 #[cfg(test)]
-mod slots;
-#[cfg(test)]
 mod steps;
 #[cfg(test)]
 mod stopped;
-#[cfg(test)]
-mod tail;
 #[cfg(test)]
 mod trials;
 #[cfg(test)]

@@ -26,7 +26,7 @@ pub const READ: &str = "chats: read fault: mbox\n";
 pub const NEVER: u64 = 0;
 
 /// The number of bytes for which each place of a shelf has room.
-const ROOM: usize = 5_000;
+pub const ROOM: usize = 5_000;
 
 fn texts(alloc: Global, words: &[&str]) -> Result<Vec<Text>, Fail> {
     let mut texts = Vec::new(alloc);

@@ -1,10 +1,10 @@
 //! Runs by a steps file: the lines that are steps, and where a run stops that can't follow one.
 use crate::rows::{BOB, ended_on, mbox_of};
 use crate::runs::{NEVER, ended, ended_over, source};
-use crate::slots::Hollow;
 use follow::Status;
 use std::test::Fail;
 use worked_mails::{M1, T1};
+use worked_state::Hollow;
 
 const LIST: [&str; 3] = ["--me", "me@x.org", "list"];
 

@@ -4,15 +4,12 @@ ghost use Rattle.checkpoint.specs.Kept.{count_of as kept_count_of};
 
 use box_state::Mailbox;
 use checkpoint::{Opened, SlotFault, Slots};
-use outside::{Failed, Place, Shelf};
+use outside::{Place, Shelf};
 use shelves::{Crash, Did, MemoryShelf, ShelfCall};
 use state_image::Position;
 use std::alloc::Global;
 use std::test::Fail;
-
-/// The image of a mailbox with one mail from Bob, after two changes.
-pub const M1_IMAGE: &[u8] =
-    b"CHATSIM1\0\0\0\x08me@x.org\0\0\0\0\0\0\0\x02\0\0\0\0\0\0\0\x7e\0\0\0\0\0\0\0\0\0\0\0\0\0\0\0\0\0\0\0\0f2.\xc0\0\0\0\x02\0\0\0\x01\0\0\0\x01\0\0\0\0f2.\xc0\0\0\0\0\0\x08m1@x.org\0\0\0\x09bob@x.org\0\0\0\x03Bob\0\0\0\x01\0\0\0\x08me@x.org\0\0\0\0\x01\0\0\0\0f2\x12\xa0\0\0\0\0\0\0\0\0\x01\0\0\0\0\0\0\0\0\0\0\0\0\0\0\0\0\0\0\0\0\0\0\0\0\x02Hi\0\0\0\0\0\0\0\0\0\0\0";
+use worked_state::{CRASHES, Hollow, M1_IMAGE, first_write, slot, with_byte};
 
 /// The image of an empty mailbox after two changes.
 const TWO: &[u8] =
@@ -24,16 +21,6 @@ const THREE: &[u8] =
 
 /// No image.
 const NONE: &[u8] = b"CHATSIM0";
-
-/// A gate, a number below 256, the length of an image and the image.
-pub fn slot(alloc: Global, gate: u8, number: u8, image: &[u8]) -> Result<Vec<u8>, Fail> {
-    let mut bytes = Vec::new(alloc);
-    bytes.push(gate)?;
-    bytes.extend_from_slice(&[0, 0, 0, 0, 0, 0, 0, number])?;
-    bytes.extend_from_slice(&(image.len() as u64).to_be_bytes())?;
-    bytes.extend_from_slice(image)?;
-    Ok(bytes)
-}
 
 /// A shelf of two such contents with room for 240 bytes in each place and for 32 calls, which fail from the number `stop` on.
 fn shelf_of(alloc: Global, a: &[u8], b: &[u8], stop: Option<u64>) -> Result<MemoryShelf, Fail> {
@@ -75,7 +62,7 @@ fn is_above(number: u64, kept: &Option<(Mailbox, Position)>) -> bool
 
 /// Opens the slots, and saves an image where its number is greater than the count that is kept. It answers whether it was
 /// saved.
-pub fn save(alloc: Global, shelf: &mut MemoryShelf, number: u64, image: &[u8]) -> bool {
+fn save(alloc: Global, shelf: &mut MemoryShelf, number: u64, image: &[u8]) -> bool {
     let Ok(Opened { mut slots, kept }) = Slots::open(alloc, shelf) else {
         return false;
     };
@@ -98,7 +85,7 @@ fn the_first_save_writes_207_bytes_to_a(rt: HostRuntime) -> Result<(), Fail> {
     Ok(())
 }
 
-pub fn called(did: Did, place: Place, at: u64, len: u64) -> ShelfCall {
+fn called(did: Did, place: Place, at: u64, len: u64) -> ShelfCall {
     ShelfCall {
         did,
         place,
@@ -159,16 +146,6 @@ const DAMAGES: [(usize, u8, u64); 6] = [
     (44, 0, 37),
     (84, 1, 85),
 ];
-
-/// Bytes of which one is another.
-pub fn with_byte(alloc: Global, bytes: &[u8], offset: usize, byte: u8) -> Result<Vec<u8>, Fail> {
-    let mut bytes = bytes.to_vec(alloc)?;
-    match bytes.get_mut(offset) {
-        Some(place) => *place = byte,
-        None => return Err(Fail::from("too far")),
-    }
-    Ok(bytes)
-}
 
 #[test]
 fn damage_has_its_place_and_its_offset(rt: HostRuntime) -> Result<(), Fail> {
@@ -236,15 +213,6 @@ fn the_greater_number_is_chosen_and_a_where_they_are_equal(rt: HostRuntime) -> R
     Ok(())
 }
 
-/// The first write to a shelf.
-pub fn first_write(shelf: &MemoryShelf) -> Option<ShelfCall> {
-    shelf
-        .calls()
-        .iter()
-        .find(|call| call.did == Did::Write)
-        .copied()
-}
-
 #[test]
 fn a_closed_gate_is_not_written_again(rt: HostRuntime) -> Result<(), Fail> {
     let alloc = rt.alloc();
@@ -261,9 +229,6 @@ fn a_closed_gate_is_not_written_again(rt: HostRuntime) -> Result<(), Fail> {
     }
     Ok(())
 }
-
-/// All crashes.
-pub const CRASHES: [Crash; 3] = [Crash::Old, Crash::New, Crash::Ones];
 
 /// What is done where a run stops: three changes are saved, after the number of calls that this takes.
 #[derive(Clone, Copy)]
@@ -392,50 +357,8 @@ fn a_shelf_that_fails_opens_nothing(rt: HostRuntime) -> Result<(), Fail> {
     Ok(())
 }
 
-/// A shelf whose B tells a size and begins with these bytes. It takes all that is written, and keeps none of it.
-#[derive(Drop)]
-pub struct Hollow {
-    pub size: u64,
-    pub head: &'static [u8],
-}
-
 /// The gate, the number 5 and the length 1,073,741,825.
 const LONG: &[u8] = &[1, 0, 0, 0, 0, 0, 0, 0, 5, 0, 0, 0, 0, 64, 0, 0, 1];
-
-impl Shelf for Hollow {
-    ghost faults = { λ _. 0 };
-
-    fn size(&mut self, place: Place) -> Result<u64, Failed> {
-        Ok(if place == Place::B { self.size } else { 0 })
-    }
-
-    fn read(&mut self, place: Place, _at: u64, buf: &mut [u8]) -> Result<usize, Failed> {
-        if place != Place::B {
-            return Ok(0);
-        }
-        let count = buf.len().min(self.head.len());
-        buf[..count].copy_from_slice(&self.head[..count]);
-        Ok(count)
-    }
-
-    fn write_at(&mut self, _place: Place, _at: u64, _bytes: &[u8]) -> Result<(), Failed> {
-        Ok(())
-    }
-
-    fn cut(&mut self, _place: Place, _size: u64) -> Result<(), Failed> {
-        Ok(())
-    }
-
-    fn sync(&mut self, _place: Place) -> Result<(), Failed> {
-        Ok(())
-    }
-
-    ghost is_outcome = { λ _. tt };
-
-    ghost counts_now = { λ shelf t c earlier now. absurd now };
-
-    ghost only_now = { λ shelf c left. absurd left };
-}
 
 #[test]
 fn a_length_over_the_bound_is_damaged_at_9(rt: HostRuntime) {

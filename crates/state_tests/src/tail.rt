@@ -2,7 +2,6 @@
 ghost use Rattle.std.specs.Prelude.{◌≤◌, ◌^◌, IfOk};
 ghost use Rattle.tail_journal.specs.Tails.{IsGroup};
 
-use crate::slots::CRASHES;
 use mailbox_model::Change;
 use outside::Place;
 use shelves::{Crash, Did, MemoryShelf};
@@ -10,6 +9,7 @@ use state_image::{Position, write_change};
 use std::alloc::Global;
 use std::test::Fail;
 use tail_journal::{Tail, TailFault, write_group};
+use worked_state::CRASHES;
 
 /// A field of a group of one change.
 #[derive(Clone, Copy, Debug, PartialEq, Eq)]
@@ -63,7 +63,7 @@ fn group_with(alloc: Global, other: Field, bytes: &[u8]) -> Result<Vec<u8>, Fail
 }
 
 /// The same group with each of these bases, one after the other.
-pub fn groups_from(alloc: Global, bases: &[u8]) -> Result<Vec<u8>, Fail> {
+fn groups_from(alloc: Global, bases: &[u8]) -> Result<Vec<u8>, Fail> {
     let mut groups = Vec::new(alloc);
     for base in bases {
         let group = group_with(alloc, Field::Base, &[0, 0, 0, 0, 0, 0, 0, *base])?;
