@@ -4,8 +4,14 @@
 #[cfg(test)]
 mod asked;
 #[cfg(test)]
+mod draws;
+#[cfg(test)]
 mod listeners;
 #[cfg(test)]
 mod made;
 #[cfg(test)]
+mod texts;
+#[cfg(test)]
 mod trial;
+#[cfg(test)]
+mod trial_box;

@@ -5,13 +5,17 @@ ghost use Rattle.std.specs.Prelude.{◌≡◌, ◌<◌};
 mod drawn;
 mod plain;
 
+use crate::draws::draw_for;
 use crate::made::addr;
+use crate::texts::{
+    contacts_text, found_contacts, found_list, found_page, found_updates, list_text, page_text,
+    same, updates_text,
+};
 use card_type::{Card, ChatKey, is_valid};
-use drawn::{COUNT, HOUR, PEOPLE, START, card, draw_for, id_of};
-use engine::{AskFault, Engine};
+use drawn::{COUNT, HOUR, PEOPLE, START, card, id_of};
+use engine::Engine;
 use kit::{Id, Steps};
-use lists::Items;
-use mailbox_model::{Change, ChatPage, ContactRow, Fault, ListPage, UpdateRow};
+use mailbox_model::{Change, ChatPage, Fault};
 use plain::{Mail, contacts_of, list_of, mails, pages_of, updates_of};
 use std::alloc::Global;
 use std::marker::Brand;
@@ -24,34 +28,6 @@ const ARRIVAL: u64 = START + 200 * HOUR;
 
 /// When some timers have run out.
 const LATER: u64 = START + 320 * HOUR;
-
-/// An answer, and none where what is asked for is not there.
-fn answered<T: Drop>(answer: Result<T, AskFault>) -> Result<Option<T>, Fail> {
-    match answer {
-        Ok(found) => Ok(Some(found)),
-        Err(AskFault::NoChat | AskFault::NoApp) => Ok(None),
-        Err(fault) => Err(Fail::from(fault)),
-    }
-}
-
-/// Whether two texts are one.
-fn same(rt: &impl Abort, found: &String, expected: &String) {
-    assert_eq!(rt; found.as_str(), expected.as_str());
-}
-
-/// A list, as a text.
-fn list_text(alloc: Global, list: &ListPage) -> Result<String, Fail> {
-    Ok(format!(in alloc; "{list:?}")?)
-}
-
-/// The list of an engine, as a text.
-fn found_list<L: Ledger>(
-    alloc: Global,
-    engine: &Engine,
-    steps: &mut Steps<L>,
-) -> Result<String, Fail> {
-    list_text(alloc, &engine.list(steps)?)
-}
 
 /// The list agrees.
 fn list_agrees<L: Ledger>(
@@ -75,22 +51,6 @@ fn page_with<'m>(pages: &'m [ChatPage], key: &ChatKey) -> Option<&'m ChatPage> {
         }
     }
     None
-}
-
-/// A page or none, as a text.
-fn page_text(alloc: Global, page: Option<&ChatPage>) -> Result<String, Fail> {
-    Ok(format!(in alloc; "{page:?}")?)
-}
-
-/// The page of a chat of an engine, as a text.
-fn found_page<L: Ledger>(
-    alloc: Global,
-    engine: &Engine,
-    key: &ChatKey,
-    steps: &mut Steps<L>,
-) -> Result<String, Fail> {
-    let page = answered(engine.chat(key, steps))?;
-    page_text(alloc, page.as_ref())
 }
 
 /// The page of a chat agrees.
@@ -126,11 +86,6 @@ fn chats_agree<L: Ledger>(
     Ok(())
 }
 
-/// Contacts, as a text.
-fn contacts_text(alloc: Global, rows: &[ContactRow]) -> Result<String, Fail> {
-    Ok(format!(in alloc; "{rows:?}")?)
-}
-
 /// The contacts agree.
 fn contacts_agree(
     rt: &impl Abort,
@@ -140,25 +95,9 @@ fn contacts_agree(
 ) -> Result<(), Fail> {
     let expected = contacts_of(alloc, mails, engine.mailbox().me())?;
     let expected = contacts_text(alloc, expected.as_slice())?;
-    let found = contacts_text(alloc, engine.contacts()?.as_slice())?;
+    let found = found_contacts(alloc, engine)?;
     same(rt, &found, &expected);
     Ok(())
-}
-
-/// Updates or none, as a text.
-fn updates_text(alloc: Global, updates: Option<&Items<UpdateRow>>) -> Result<String, Fail> {
-    Ok(format!(in alloc; "{updates:?}")?)
-}
-
-/// The updates of an app of an engine, as a text.
-fn found_updates<L: Ledger>(
-    alloc: Global,
-    engine: &Engine,
-    id: &Id,
-    steps: &mut Steps<L>,
-) -> Result<String, Fail> {
-    let updates = answered(engine.updates(id, steps))?;
-    updates_text(alloc, updates.as_ref())
 }
 
 /// The updates of the mail with an id agree.

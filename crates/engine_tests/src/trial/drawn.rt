@@ -1,6 +1,5 @@
 //! Mails that are made by numbers.
-ghost use Rattle.std.specs.Prelude.{◌<◌};
-
+use crate::draws::{Draw, draw_for};
 use crate::made::{addr, id, plain, text};
 use card_type::{Attachment, Card, GroupId, Payload, Update};
 use kit::{Addr, Id, Text};
@@ -30,35 +29,6 @@ pub(super) const START: u64 = 1_700_000_000;
 
 /// Seconds in an hour.
 pub(super) const HOUR: u64 = 3_600;
-
-/// Numbers that are drawn one after the other.
-#[derive(Clone, Copy)]
-pub(super) struct Draw {
-    state: u64,
-}
-
-impl Draw {
-    /// The next number, which is below the bound.
-    pub(super) fn below(&mut self, bound: u32) -> u32
-        requires { 0 < bound }
-        ensures { result < bound }
-    {
-        self.state = self
-            .state
-            .wrapping_mul(6_364_136_223_846_793_005)
-            .wrapping_add(1_442_695_040_888_963_407);
-        (self.state >> 33) as u32 % bound
-    }
-}
-
-/// What is drawn for the mail with a number.
-pub(super) fn draw_for(number: u32) -> Draw {
-    let mut draw = Draw {
-        state: u64::from(number),
-    };
-    let _far_from_its_neighbours = draw.below(COUNT);
-    draw
-}
 
 /// Who sent the mail with a number: oneself every fifth.
 fn author(number: u32) -> &'static str {
