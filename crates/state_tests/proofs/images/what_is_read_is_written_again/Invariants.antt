@@ -1,4 +1,4 @@
-use Rattle.run_tests.proofs.images.what_is_read_is_written_again.Given as goal
+use Rattle.state_tests.proofs.images.what_is_read_is_written_again.Given as goal
 
 -- the ledger that the blank was made for
 abbrev pub ghosts-written_again : goal.ghosts-written_again

@@ -3,7 +3,7 @@ use Rattle.outside.specs.declared.shelf.Place.{Place}
 use Rattle.checkpoint.specs.Kept.{count_of, number_of}
 use Rattle.checkpoint.specs.Saves.{IsAbove}
 use Rattle.checkpoint.specs.Slots.{Slot, chosen_of}
-use Rattle.run_tests.proofs.slots.save.Goals as goal
+use Rattle.state_tests.proofs.slots.save.Goals as goal
 
 above : (chosen : Option (Place × Slot)) (count : Option ℕ) (number : ℕ) → number_of chosen ≡ count → IfSome count (λ count. count < number) → IsAbove number chosen
 above None count number is less = tt

@@ -5,7 +5,7 @@ use Rattle.mailbox_model.specs.declared.change.Change.{Change}
 use Rattle.mailbox_model.specs.declared.change.Change.TheVariants.{At}
 use Rattle.state_image.specs.Changes.{FitsChange, change_spelled}
 use Rattle.tail_journal.specs.Spelling.{AreSpelled}
-use Rattle.run_tests.proofs.tail.written_group.Goals as goal
+use Rattle.state_tests.proofs.tail.written_group.Goals as goal
 
 fit_more : (held : List Change) (change : Change) → AllByRecursion FitsChange held → FitsChange change → AllByRecursion FitsChange (held ++ change ∷ [])
 fit_more [] change fits fit = (fit, tt)
