@@ -1,11 +1,11 @@
 //! Who acts on whom: the uids of the mails that name an id, in whatever order they come and go.
-use crate::made::{id, ids, plain, spot};
 use card_type::{Card, Payload, Update};
 use effects::Effects;
 use kit::Id;
 use lists::Items;
 use std::alloc::Global;
 use std::test::Fail;
+use worked_values::{id, ids, plain, spot};
 
 /// The uids of the mails below, in orders of their arrival. Mail order is 5, 4, 3, 2, 1.
 const ARRIVALS: [[u32; 5]; 4] = [

@@ -5,13 +5,13 @@ ghost use Rattle.mailbox_model.specs.declared.item.Held.TheVariants as is_held;
 ghost use Rattle.mailbox_model.specs.Mailbox.{full, IsValidChange};
 ghost use Rattle.box_state.specs.Kept.{ready_for};
 
-use crate::made::{addr, id, plain};
 use box_state::{Change, Fault, Held, Item, Mailbox, PlanFault, Turn};
 use card_type::{Card, is_valid, weight};
 use kit::{Id, LAST_MOMENT, Text};
 use lists::Items;
 use std::alloc::Global;
 use std::test::Fail;
+use worked_values::{addr, id, plain};
 
 const ME: &str = "me@x.org";
 

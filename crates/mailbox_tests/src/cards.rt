@@ -1,5 +1,4 @@
 //! Cards: their kinds and effects, their weight and rules, keys of chats and spots.
-use crate::made::{addr, addrs, id, ids, key, plain, text};
 use card_type::{
     Card, ChatKey, Effect, GroupId, KeyMap, Kind, Payload, Spot, Update, effect_of, is_valid,
     kind_of, valid_group, weight,
@@ -8,6 +7,7 @@ use kit::{LAST_MOMENT, Text};
 use lists::Items;
 use std::alloc::Global;
 use std::test::Fail;
+use worked_values::{addr, addrs, id, ids, key, plain, text};
 
 const ME: &str = "me@x.org";
 

@@ -1,10 +1,10 @@
 //! The order of chats in the list.
-use crate::made::key;
 use card_type::ChatKey;
 use chatlist::ChatList;
 use lists::Items;
 use std::alloc::Global;
 use std::test::Fail;
+use worked_values::key;
 
 fn set(alloc: Global, list: &mut ChatList, text: &str, date: Option<u64>) -> Result<(), Fail> {
     Ok(list.set(&key(alloc, text)?, date)?)

@@ -1,4 +1,5 @@
-//! Tests of the crates from cards to pages. It has no code of its own.
+//! Tests of cards, of a mailbox, of citations, effects, contacts and deadlines, and of the order of chats. It has no code of
+//! its own.
 #![tactic(auto)]
 
 #[cfg(test)]
@@ -14,18 +15,4 @@ mod deadlines;
 #[cfg(test)]
 mod links;
 #[cfg(test)]
-mod made;
-#[cfg(test)]
-mod names;
-#[cfg(test)]
 mod people;
-#[cfg(test)]
-mod printed;
-#[cfg(test)]
-mod rosters;
-#[cfg(test)]
-mod rows;
-#[cfg(test)]
-mod split_sink;
-#[cfg(test)]
-mod states;

@@ -1,7 +1,6 @@
 //! What cards cite, and the chats that follow from it while cards come and go.
 ghost use Rattle.std.specs.Prelude.{◌≡◌, true, OnOk};
 
-use crate::made::{addr, id};
 use card_type::{Card, ChatKey, Kind, Spot, kind_of};
 use kit::Id;
 use lists::Items;
@@ -20,6 +19,7 @@ enum Step {
 }
 
 use Step::{Add, Remove};
+use worked_values::{addr, id};
 
 /// Each answer is the cards that moved: the id, the chat before and the chat after, `-` for none.
 type Row = (Step, &'static str);

@@ -1,9 +1,9 @@
 //! The contacts: who wrote or was written to, and the last name of each, in whatever order mails come and go.
-use crate::made::{addr, addrs, plain, spot, text};
 use card_type::Card;
 use contacts::Contacts;
 use std::alloc::Global;
 use std::test::Fail;
+use worked_values::{addr, addrs, plain, spot, text};
 
 /// The uids of the mails below, in orders of their arrival. Mail order is 1, 2, 3, 4.
 const ARRIVALS: [[u32; 4]; 4] = [[1, 2, 3, 4], [4, 3, 2, 1], [2, 4, 1, 3], [3, 1, 4, 2]];

@@ -2,7 +2,6 @@
 ghost use Rattle.std.specs.Prelude.{All, IfOk, IfSome};
 ghost use Rattle.chat_print.specs.Moments.{HasMoment, IsMoment, ReaderHasMoment, RowHasMoments};
 
-use crate::made::{addr, id, key, text};
 use crate::split_sink::SplitSink;
 use card_type::{Attachment, Payload, Update};
 use chat_print::{print_chat, print_contacts, print_list, print_updates};
@@ -14,6 +13,7 @@ use mailbox_model::{
 use outside::{MemorySink, PrintFault};
 use std::alloc::Global;
 use std::test::Fail;
+use worked_values::{addr, id, key, text};
 
 /// 2024-05-01 10:00:00 UTC.
 const TEN: u64 = 1_714_557_600;

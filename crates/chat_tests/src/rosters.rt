@@ -1,11 +1,11 @@
 //! The members, the name and the timer of a chat, after each of its mails.
-use crate::made::{addr, key, plain, text};
 use card_type::{Card, ChatKey};
 use group_roster::{Roster, add, begin};
 use kit::{Addr, Memory};
 use lists::Items;
 use std::alloc::Global;
 use std::test::Fail;
+use worked_values::{addr, key, plain, text};
 
 /// What a mail says that rosters look at.
 #[derive(Clone, Copy)]

@@ -2,7 +2,7 @@ use Rattle.std.proofs.Common.{◌≡◌, ◌+◌, ◌++◌, List, ℕ, Some, Res
 use Rattle.std.proofs.Math.Seq.{take-append-add}
 use Rattle.outside.specs.Bytes.{PutAppends}
 use Rattle.outside.specs.declared.faults.Failed.{Failed}
-use Rattle.mailbox_tests.proofs.split_sink.SplitSinkSink.put.Goals as goal
+use Rattle.chat_tests.proofs.split_sink.SplitSinkSink.put.Goals as goal
 
 -- a chunk that is put in two
 two_puts : (old mid new front last : List ℕ) (r : Result Unit Failed) → mid ≡ old ++ front → PutAppends (Some mid) (Some new) r last

@@ -1,5 +1,4 @@
 //! What is kept of a chat, where its cards come, go and are marked anew in any order.
-use crate::made::{addr, key, spot};
 use crate::rosters::{BY_BOB, G1, G2, G3, Said, card};
 use card_type::{Card, ChatKey, Spot};
 use chat_view::{ChatState, Mark};
@@ -8,6 +7,7 @@ use kit::Addr;
 use lists::Items;
 use std::alloc::Global;
 use std::test::Fail;
+use worked_values::{addr, key, spot};
 
 /// A card of a chat: what its mail says, whether it is taken in where all others are there, and whether it is let go.
 type Step<'a> = (Said<'a>, bool, bool);

@@ -1,5 +1,4 @@
 //! The name of a chat, and its row in the list.
-use crate::made::{addr, key, text};
 use crate::rows::{row, state_of};
 use card_type::ChatKey;
 use chat_view::{Mark, Row, chat_row, page_name};
@@ -7,6 +6,7 @@ use group_roster::begin;
 use kit::Text;
 use std::alloc::Global;
 use std::test::Fail;
+use worked_values::{addr, key, text};
 
 /// The key of a chat, the name of the contact, that of the roster, and the name that is shown.
 const NAMES: [(&str, Option<&str>, &str, &str); 7] = [

@@ -1,13 +1,13 @@
 //! Rows of cards, their bodies, and what is kept of a chat.
 ghost use Rattle.std.specs.Prelude.{◌≡◌, ◌≤◌, ◌+◌, length, IfOk, OnOk};
 
-use crate::made::{addr, id, key, plain, text};
 use card_type::{Card, Effect, Payload, Spot, Update};
 use chat_view::{ChatState, Mark, Row, RowMaker, body_of};
 use kit::Addr;
 use lists::Items;
 use std::alloc::Global;
 use std::test::Fail;
+use worked_values::{addr, id, key, plain, text};
 
 const ME: &str = "me@x.org";
 
