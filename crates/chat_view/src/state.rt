@@ -7,8 +7,9 @@ ghost use Rattle.chat_view.specs.Changes.{AreFew};
 ghost use Rattle.chat_view.specs.Standing.{StandsFor, last_date, shown};
 
 use card_type::{Card, ChatKey, Spot};
-use group_roster::{Series, Setters, add_at, begin};
+use group_roster::{Setters, add_at, begin};
 use kit::{Addr, Memory};
+use lists::Items;
 use mailbox_model::{Mark, Roster};
 use std::alloc::Global;
 
@@ -18,9 +19,9 @@ pub struct ChatState {
     /// The key of the chat.
     pub key: ChatKey,
     /// The spots of its cards, in mail order.
-    pub spots: Series<Spot>,
+    pub spots: Items<Spot>,
     /// The marks of the rows of its cards, in mail order; `None` where a card is not shown.
-    pub marks: Series<Option<Mark>>,
+    pub marks: Items<Option<Mark>>,
     /// Who is in it, how it is called, and when its mails vanish.
     pub roster: Roster,
     /// The cards on which the roster rests.
@@ -66,8 +67,8 @@ impl ChatState {
         let roster = begin(alloc, &key, me)?;
         Ok(ChatState {
             key,
-            spots: Series::new(alloc),
-            marks: Series::new(alloc),
+            spots: Items::new(alloc),
+            marks: Items::new(alloc),
             roster,
             setters: Setters::new(alloc),
             last: None,

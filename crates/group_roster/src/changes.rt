@@ -9,13 +9,13 @@ ghost use Rattle.group_roster.specs.Setters.{At, AreInOrder, RestsOn, are_same_p
 use crate::listings::{Listing, are_same_people, is_listed_at, is_of_member, members_at, place_of};
 use crate::roster::changes_members;
 use crate::said::listed;
-use crate::series::Series;
 use crate::setters::Setters;
 use crate::stays::{
     is_after, is_kept, keeps_name, keeps_timer, stays_with_in_thread, stays_without_in_thread,
 };
 use card_type::{Card, ChatKey, Spot};
 use kit::Memory;
+use lists::Items;
 use mailbox_model::Roster;
 use std::alloc::Global;
 
@@ -23,7 +23,7 @@ use std::alloc::Global;
 /// after it.
 fn list_again(
     alloc: Global,
-    listings: &mut Series<Listing>,
+    listings: &mut Items<Listing>,
     place: usize,
     spot: &Spot,
     card: &Card,
@@ -139,7 +139,7 @@ pub fn put_in(
 
 /// Drops whom the card at a spot says from its place among the listings, where the one before it says the same people, and
 /// one is after it.
-fn unlist(listings: &mut Series<Listing>, place: usize) -> bool
+fn unlist(listings: &mut Items<Listing>, place: usize) -> bool
     ensures says { result ≡ (nat_lt (suc place) (length listings.old) && are_same_people (members_at listings.old place) (members_at listings.old (suc place))) }
     ensures taken { result ≡ true → listings.new ≡ remove listings.old place }
     ensures left { result ≡ false → listings.new ≡ listings.old }

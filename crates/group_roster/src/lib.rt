@@ -5,7 +5,6 @@ mod changes;
 mod listings;
 mod roster;
 mod said;
-mod series;
 mod setters;
 mod stays;
 
@@ -13,5 +12,4 @@ pub use changes::{put_in, take_out};
 pub use listings::Listing;
 pub use mailbox_model::Roster;
 pub use roster::{add, begin};
-pub use series::Series;
 pub use setters::{Setters, add_at};

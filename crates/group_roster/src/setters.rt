@@ -7,7 +7,6 @@ ghost use Rattle.group_roster.specs.Standing.{roster_with};
 use crate::listings::Listing;
 use crate::roster::{add, changes_members, changes_name};
 use crate::said::listed;
-use crate::series::Series;
 use card_type::{Card, ChatKey, Spot};
 use kit::{Addr, Memory};
 use lists::Items;
@@ -21,7 +20,7 @@ pub struct Setters {
     /// The first card of a group or a thread.
     pub first: Option<Spot>,
     /// The cards that say the members of a group, in mail order: the first one, and the later ones of members.
-    pub listings: Series<Listing>,
+    pub listings: Items<Listing>,
     /// The last card after the first that says the name of a group anew.
     pub named: Option<Spot>,
     /// The last card that sets the timer.
@@ -37,7 +36,7 @@ impl Setters {
     {
         Setters {
             first: None,
-            listings: Series::new(alloc),
+            listings: Items::new(alloc),
             named: None,
             timed: None,
             joined: Items::new(alloc),
@@ -78,7 +77,7 @@ fn keep(kept: &mut Option<Spot>, sets: bool, spot: &Spot) -> Result<(), Memory>
 /// Keeps whom the card at the spot says, where it says the members of a group.
 fn list(
     alloc: Global,
-    listings: &mut Series<Listing>,
+    listings: &mut Items<Listing>,
     says: bool,
     spot: &Spot,
     card: &Card,

@@ -1,5 +1,6 @@
 //! Lists that contracts see as plain lists.
-ghost use Rattle.std.specs.Prelude.{◌≡◌, ◌==◌, List, [], ◌∷◌, ◌++◌, length, IfOk, OnOk, OnErr};
+ghost use Rattle.std.specs.Prelude.{◌≡◌, ◌==◌, List, [], ◌∷◌, ◌++◌, ◌≤◌, length, take, drop, IfOk, OnOk, OnErr, slice_set};
+ghost use Rattle.std.specs.List.{insert, remove};
 ghost use Rattle.std.specs.Cmp.Lexicographic.{pointwise, lists_per, lists_equiv};
 ghost use Rattle.std.proofs.Common.{rules};
 
@@ -87,6 +88,51 @@ impl<T: Drop> Items<T> {
     {
         self.values.push(value)?;
         Ok(())
+    }
+
+    /// Puts a value in at an index, before those that are there and after, and after the last one where there are fewer.
+    /// Takes memory; `Err` only when it runs out, and then the values are as before.
+    pub fn insert(&mut self, index: usize, value: T) -> Result<(), Memory>
+        ensures ok { OnOk result (self.new ≡ insert self.old index value) }
+        ensures err { OnErr result (self.new ≡ self.old) }
+    {
+        if index < self.values.len() {
+            self.values.insert(index, value)?;
+        } else {
+            self.values.push(value)?;
+        }
+        Ok(())
+    }
+
+    /// Takes out the value at an index, if there is one. Takes no memory.
+    pub fn remove(&mut self, index: usize)
+        ensures { self.new ≡ remove self.old index }
+    {
+        if index < self.values.len() {
+            let _removed = self.values.remove(index);
+        }
+    }
+
+    /// Takes out the values from an index on. Takes memory for them; `Err` only when it runs out, and then the values are
+    /// as before.
+    pub fn split_off(&mut self, index: usize) -> Result<Self, Memory>
+        requires within { index ≤ length self.old }
+        ensures left { OnOk result (self.new ≡ take index self.old) }
+        ensures taken { IfOk result (λ taken. taken ≡ drop index self.old) }
+        ensures err { OnErr result (self.new ≡ self.old) }
+    {
+        Ok(Items {
+            values: self.values.split_off(index)?,
+        })
+    }
+
+    /// Puts a value in place of the one at an index, if there is one. Takes no memory.
+    pub fn set(&mut self, index: usize, value: T)
+        ensures { self.new ≡ slice_set self.old index value }
+    {
+        if let Some(there) = self.values.get_mut(index) {
+            *there = value;
+        }
     }
 }
 
