@@ -98,8 +98,9 @@ impl Ord for ChatKey {
     ghost matches_eq = { Prim.search (comparing, rules) };
 
     fn cmp(&self, other: &Self) -> Ordering {
-        self.rank()
-            .cmp(&other.rank())
-            .then(self.bytes().cmp(other.bytes()))
+        match self.rank().cmp(&other.rank()) {
+            Ordering::Equal => self.bytes().cmp(other.bytes()),
+            different => different,
+        }
     }
 }

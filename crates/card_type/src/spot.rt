@@ -70,9 +70,10 @@ impl Ord for Spot {
     ghost matches_eq = { Prim.search (comparing, rules) };
 
     fn cmp(&self, other: &Self) -> Ordering {
-        self.date
-            .cmp(&other.date)
-            .then(self.id.cmp(&other.id))
-            .then(self.uid.cmp(&other.uid))
+        // The ids are read only where the dates are equal.
+        match self.date.cmp(&other.date) {
+            Ordering::Equal => self.id.cmp(&other.id).then(self.uid.cmp(&other.uid)),
+            different => different,
+        }
     }
 }

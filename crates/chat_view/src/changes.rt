@@ -38,9 +38,7 @@ fn count_new(marks: &[Option<Mark>]) -> u32
 {
     let mut count: u32 = 0;
     for mark in marks {
-        if *mark == Some(Mark::New) {
-            count = count.saturating_add(1);
-        }
+        count = count.wrapping_add(u32::from(*mark == Some(Mark::New)));
     }
     count
 }
