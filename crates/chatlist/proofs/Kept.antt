@@ -55,20 +55,20 @@ of_key key d = key_eq key d.0
 
 -- ---- a key that is sought
 
+is_it : (key : ChatKey) (date : Option ℕ) (e : Dated) → is_at (key_cmp key) e.0 ≡ true → Some e.1 ≡ Some date → e ≡ (key, date)
+is_it key date e same k =
+    let keys : e.0 ≡ key = sym (one_key key e.0 same) in
+    let dates : e.1 ≡ date = cc in
+    λ i. (keys i, dates i)
+
 -- what holds of each holds of the one that is found
 found : (P : Dated → Type 0) (key : ChatKey) (date : Option ℕ) (ds : List Dated) → lookup (is_at (key_cmp key)) ds ≡ Some date → AllByRecursion P ds → P (key, date)
 found P key date [] h all = cc
 found P key date (e ∷ ds) h all =
     elim (is_at (key_cmp key) e.0) as (λ b. is_at (key_cmp key) e.0 ≡ b → cond b (Some e.1) (lookup (is_at (key_cmp key)) ds) ≡ Some date → P (key, date)) [
-      | true ↦ λ same k. here same k
+      | true ↦ λ same k. subst P (is_it key date e same k) all.0
       | false ↦ λ _ k. found P key date ds k all.1
     ] refl h
-  where
-    here : is_at (key_cmp key) e.0 ≡ true → Some e.1 ≡ Some date → P (key, date)
-    here same k =
-        let keys : e.0 ≡ key = sym (one_key key e.0 same) in
-        let dates : e.1 ≡ date = cc in
-        subst P {x = e} {y = (key, date)} (λ i. (keys i, dates i)) all.0
 
 -- one that is not found is not there
 pub none_found : (key : ChatKey) (ds : List Dated) → lookup (is_at (key_cmp key)) ds ≡ None → None_of (of_key key) ds
@@ -78,6 +78,10 @@ none_found key (e ∷ ds) h =
       | true ↦ λ _ k. cc
       | false ↦ λ other k. (sym (tied key e.0) ∙ other, none_found key ds k)
     ] refl h
+
+-- it does not come before itself
+not_below : (key : ChatKey) (date : Option ℕ) (e : Dated) → is_at (key_cmp key) e.0 ≡ true → Some e.1 ≡ Some date → is_lt (dated_cmp e (key, date)) ≡ false
+not_below key date e same k = subst (λ d. is_lt (dated_cmp e d) ≡ false) (is_it key date e same k) (ap is_lt (tied_itself dates_total e))
 
 -- ---- a chat is taken out
 
@@ -97,17 +101,28 @@ removed key date (e ∷ ds) zero h rises once before after =
     others same = subst (λ k. None_of (of_key k) ds) (sym (one_key key e.0 same)) once.0
 removed key date (e ∷ ds) (suc i) h rises once before after =
     elim (is_at (key_cmp key) e.0) as (λ b. is_at (key_cmp key) e.0 ≡ b → cond b (Some e.1) (lookup (is_at (key_cmp key)) ds) ≡ Some date → (suc i < length (e ∷ ds)) × (remove (e ∷ ds) (suc i) ≡ without_key key (e ∷ ds))) [
-      | true ↦ λ same k. absurd (both_ways (is_lt (dated_cmp e (key, date))) (itself same k) before.0)
+      | true ↦ λ same k. absurd (both_ways (is_lt (dated_cmp e (key, date))) (not_below key date e same k) before.0)
       | false ↦ λ other k.
           let rest = removed key date ds i k rises.1 once.1 before.1 after in
           (omega (arith, rest.0), rw (sym (tied key e.0) ∙ other) (ap (λ es. e ∷ es) rest.1))
     ] refl h
-  where
-    itself : is_at (key_cmp key) e.0 ≡ true → Some e.1 ≡ Some date → is_lt (dated_cmp e (key, date)) ≡ false
-    itself same k =
-        let keys : e.0 ≡ key = sym (one_key key e.0 same) in
-        let dates : e.1 ≡ date = cc in
-        subst (λ d. is_lt (dated_cmp e d) ≡ false) {x = e} {y = (key, date)} (λ i. (keys i, dates i)) (ap is_lt (tied_itself dates_total e))
+
+-- what stands at the index of the one that is sought
+pub stands : (key : ChatKey) (date : Option ℕ) (ds : List Dated) (i : ℕ) → lookup (is_at (key_cmp key)) ds ≡ Some date → IsStrictlySortedBy dated_cmp ds
+    → All_before dated_cmp dates_total (key, date) (take i ds) → None_before dated_cmp dates_total (key, date) (drop i ds)
+    → get_or ds i (key, date) ≡ (key, date)
+unfolding IsStrictlySortedBy
+stands key date [] i h rises before after = refl
+stands key date (e ∷ ds) zero h rises before after =
+    elim (is_at (key_cmp key) e.0) as (λ b. is_at (key_cmp key) e.0 ≡ b → cond b (Some e.1) (lookup (is_at (key_cmp key)) ds) ≡ Some date → e ≡ (key, date)) [
+      | true ↦ λ same k. is_it key date e same k
+      | false ↦ λ _ k. absurd (both_ways (is_lt (dated_cmp e (key, date))) after.0 (ap is_lt (found (λ d. dated_cmp e d ≡ Less) key date ds k rises.0)))
+    ] refl h
+stands key date (e ∷ ds) (suc i) h rises before after =
+    elim (is_at (key_cmp key) e.0) as (λ b. is_at (key_cmp key) e.0 ≡ b → cond b (Some e.1) (lookup (is_at (key_cmp key)) ds) ≡ Some date → get_or ds i (key, date) ≡ (key, date)) [
+      | true ↦ λ same k. absurd (both_ways (is_lt (dated_cmp e (key, date))) (not_below key date e same k) before.0)
+      | false ↦ λ _ k. stands key date ds i k rises.1 before.1 after
+    ] refl h
 
 -- ---- a chat that is at its place
 
@@ -127,10 +142,8 @@ kept_place key date (e ∷ ds) h rises once =
   where
     here : is_at (key_cmp key) e.0 ≡ true → Some e.1 ≡ Some date → with_place key date (e ∷ ds) ≡ e ∷ ds
     here same k =
-        let keys : e.0 ≡ key = sym (one_key key e.0 same) in
-        let dates : e.1 ≡ date = cc in
-        let is : e ≡ (key, date) = λ i. (keys i, dates i) in
-        let others : None_of (of_key key) ds = subst (λ k. None_of (of_key k) ds) keys once.0 in
+        let is : e ≡ (key, date) = is_it key date e same k in
+        let others : None_of (of_key key) ds = subst (λ d. None_of (of_key d.0) ds) is once.0 in
         let left : without_key key (e ∷ ds) ≡ ds = rw (sym (tied key e.0) ∙ same) (none_filtered (of_key key) ds others) in
         let above : Above dated_cmp (key, date) ds = subst (λ d. Above dated_cmp d ds) is (above_all e ds rises.0) in
         ap (insert_by dated_cmp (key, date)) left ∙ insert_by-above dated_cmp (key, date) ds above ∙ ap (λ d. d ∷ ds) (sym is)
@@ -253,7 +266,7 @@ put_in ks vs chats key date i same is none place =
 -- a chat is taken out where it is there
 module _ (ks : List ChatKey) (vs : List (Option ℕ)) (chats : List Dated) (key : ChatKey) (date : Option ℕ) (i : ℕ) (same : length ks ≡ length vs) (is : zip ks vs ≡ chats)
     (here : lookup (is_at (key_cmp key)) chats ≡ Some date) (rises : IsStrictlySortedBy dated_cmp (zip ks vs)) (once : IsDistinct same_key (zip ks vs)) (place : IsPlaceOf (key, date) chats i) where
-  taken : (i < length chats) × (remove chats i ≡ without_key key chats)
+  pub taken : (i < length chats) × (remove chats i ≡ without_key key chats)
   taken = removed key date chats i here (subst (IsStrictlySortedBy dated_cmp) is rises) (subst (IsDistinct same_key) is once) place.before place.after
 
   pub kept_at : i < length ks
@@ -263,7 +276,7 @@ module _ (ks : List ChatKey) (vs : List (Option ℕ)) (chats : List Dated) (key 
   take_out = zip_remove ks vs i same ∙ ap (λ ds. remove ds i) is ∙ taken.1
 
 -- what is kept of an order
-abbrev IsKept : List ChatKey → List (Option ℕ) → Type 0
+abbrev pub IsKept : List ChatKey → List (Option ℕ) → Type 0
 IsKept ks vs = (length ks ≡ length vs) × IsStrictlySortedBy dated_cmp (zip ks vs) × IsDistinct same_key (zip ks vs)
 
 pub kept_with : (ks : List ChatKey) (vs : List (Option ℕ)) (chats : List Dated) (key : ChatKey) (date : Option ℕ) (i : ℕ) → IsKept ks vs → zip ks vs ≡ chats

@@ -43,31 +43,20 @@ impl ChatList {
         }
     }
 
-    /// Whether a chat is at the place that the date of its last shown row gives it.
-    fn is_placed(&self, key: &ChatKey, last: Option<u64>) -> bool
-        ensures { result ≡ true → with_place key.now last self.now ≡ self.now }
-    {
-        // For its clauses `sorted` and `once`.
-        let _keys = self.order.keys();
-        match self.dates.get(key) {
-            Some(date) => *date == last,
-            None => false,
-        }
-    }
-
     /// Puts a chat at the place that the date of its last shown row gives it, and `None` where no row is shown; an
     /// earlier place is given up. Takes memory; `Err` only when it runs out, and then the list is as before.
     pub fn set(&mut self, key: &ChatKey, last: Option<u64>) -> Result<(), Memory>
         ensures ok { OnOk result (self.new ≡ with_place key.now last self.old) }
         ensures err { OnErr result (self.new ≡ self.old) }
     {
-        if self.is_placed(key, last) {
+        if let Ok(before) = self.dates.replace(key, last) {
+            self.order.shift(key, before, last);
             return Ok(());
         }
         let own = key.copy()?;
         self.order.reserve()?;
-        let before = self.dates.insert(key.copy()?, last)?;
-        self.order.place(own, before, last);
+        self.dates.insert(key.copy()?, last)?;
+        self.order.insert(own, last);
         Ok(())
     }
 

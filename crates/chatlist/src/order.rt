@@ -1,7 +1,7 @@
 //! Chats in order, each with its date.
-ghost use Rattle.std.specs.Prelude.{◌≡◌, ◌≤◌, true, None, Some, [], length, map, OnOk};
+ghost use Rattle.std.specs.Prelude.{◌≡◌, ◌<◌, ◌≤◌, ◌+◌, ◌⊎◌, true, None, Some, [], length, map, OnOk};
 ghost use Rattle.std.specs.BTreeMap.{is_at};
-ghost use Rattle.std.specs.List.{IsDistinct};
+ghost use Rattle.std.specs.List.{IsDistinct, insert, remove, slice_index_or};
 ghost use Rattle.std.specs.List.Sorted.{IsStrictlySortedBy};
 ghost use Rattle.std.specs.Map.{lookup};
 ghost use Rattle.std.specs.Ordering.{is_lt};
@@ -14,6 +14,7 @@ ghost use Rattle.chatlist.specs.Orders.{IsPlaceOf, same_key};
 use card_type::ChatKey;
 use kit::Memory;
 use std::alloc::Global;
+use std::cmp::Ordering;
 use std::marker::Model;
 
 /// Chats, each with the date of its last shown row, in the order of the list; no key is there twice. The keys stand
@@ -49,7 +50,32 @@ impl Model for Order {
 fn is_before(key: &ChatKey, date: Option<u64>, other: &ChatKey, other_date: Option<u64>) -> bool
     ensures { result ≡ is_lt (dated_cmp (key.now, date) (other.now, other_date)) }
 {
-    other_date.cmp(&date).then(key.cmp(other)).is_lt()
+    // The keys are read only where the dates are equal.
+    match other_date.cmp(&date) {
+        Ordering::Less => true,
+        Ordering::Equal => key.cmp(other).is_lt(),
+        Ordering::Greater => false,
+    }
+}
+
+/// The index that a place in a list has after the value at another index was taken out.
+fn place_without(place: usize, from: usize) -> usize
+    ensures { ((from < place) × (result + 1 ≡ place)) ⊎ ((place ≤ from) × (result ≡ place)) }
+{
+    if from < place { place - 1 } else { place }
+}
+
+/// Moves a value from one index to another one. Only the values between the two move with it.
+fn turn<T>(values: &mut [T], from: usize, to: usize)
+    requires from { from < length values.old }
+    requires to { to < length values.old }
+    ensures { (d : T) → values.new ≡ insert (remove values.old from) to (slice_index_or values.old from d) }
+{
+    if from < to {
+        values[from..to + 1].rotate_left(1);
+    } else {
+        values[to..from + 1].rotate_right(1);
+    }
 }
 
 impl Order {
@@ -101,7 +127,7 @@ impl Order {
     }
 
     /// Puts a chat that is not there at its place. Takes no memory: room for it was made before.
-    fn insert(&mut self, key: ChatKey, date: Option<u64>)
+    pub(crate) fn insert(&mut self, key: ChatKey, date: Option<u64>)
         requires room { self.old.has_room ≡ true }
         requires absent { lookup (is_at (key_cmp key)) self.old.chats ≡ None }
         ensures { self.new.chats ≡ insert_by dated_cmp (key, date) self.old.chats }
@@ -116,24 +142,27 @@ impl Order {
     /// Takes out a chat that has this date. Takes no memory.
     pub(crate) fn remove(&mut self, key: &ChatKey, date: Option<u64>)
         requires { lookup (is_at (key_cmp key.now)) self.old.chats ≡ Some date }
-        ensures chats { self.new.chats ≡ without_key key.now self.old.chats }
-        ensures room { self.new.has_room ≡ true }
+        ensures { self.new.chats ≡ without_key key.now self.old.chats }
     {
         let place = self.place_of(key, date);
         self.keys.remove(place);
         self.dates.remove(place);
     }
 
-    /// Puts a chat at its place, after it was taken out of the place that its date before gave it, if it had one. Takes
-    /// no memory: room for it was made before.
-    pub(crate) fn place(&mut self, key: ChatKey, before: Option<Option<u64>>, date: Option<u64>)
-        requires room { self.old.has_room ≡ true }
-        requires before { lookup (is_at (key_cmp key)) self.old.chats ≡ before }
-        ensures { self.new.chats ≡ with_place key date self.old.chats }
+    /// Puts a chat that has the date `before` at the place that another date gives it. Takes no memory.
+    pub(crate) fn shift(&mut self, key: &ChatKey, before: Option<u64>, date: Option<u64>)
+        requires { lookup (is_at (key_cmp key.now)) self.old.chats ≡ Some before }
+        ensures { self.new.chats ≡ with_place key.now date self.old.chats }
     {
-        if let Some(before) = before {
-            self.remove(&key, before);
+        // For its clauses `sorted` and `once`.
+        let _keys = self.keys();
+        if before == date {
+            return;
         }
-        self.insert(key, date);
+        let from = self.place_of(key, before);
+        let to = place_without(self.place_of(key, date), from);
+        self.dates[from] = date;
+        turn(&mut self.keys, from, to);
+        turn(&mut self.dates, from, to);
     }
 }

@@ -10,7 +10,7 @@ remove-requires-in-Some c = date_of c.self.inside.dates c.self.inside.order.chat
 pub invariant_of-self : goal.invariant_of-self
 invariant_of-self c =
     c.remove.ensures.after ∙ dates_without c.self.inside.dates c.self.inside.order.chats c.self.invariant c.args.key.now
-    ∙ ap map.from_entries (sym c.remove-in-Some.ensures.chats)
+    ∙ ap map.from_entries (sym c.remove-in-Some.ensures)
 
 pub invariant_of-self-in_default : goal.invariant_of-self-in_default
 invariant_of-self-in_default c =

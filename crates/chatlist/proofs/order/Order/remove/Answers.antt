@@ -14,7 +14,7 @@ invariant_of-self c =
     rw (c.remove.ensures.items, c.remove-2.ensures.items)
     (kept_without c.self.inside.keys.items c.self.inside.dates.items c.args.self.now.chats c.args.key.now c.args.date c.place_of-place.result c.self.invariant (ap (λ o. o.chats) c.self.view_is) c.requires c.place_of-place.ensures.place)
 
-pub returns-clause-chats : goal.returns-clause-chats
-returns-clause-chats c =
+pub returns : goal.returns
+returns c =
     rw (c.remove.ensures.items, c.remove-2.ensures.items)
     (take_out c.self.inside.keys.items c.self.inside.dates.items c.args.self.now.chats c.args.key.now c.args.date c.place_of-place.result c.self.invariant.0 (ap (λ o. o.chats) c.self.view_is) c.requires c.self.invariant.1 c.self.invariant.2 c.place_of-place.ensures.place)
