@@ -316,9 +316,10 @@ fn same_setters(one: &Setters, other: &Setters) -> bool {
         && one.joined == other.joined
 }
 
+// The states here have so few cards that one chunk holds them.
 fn same(one: &ChatState, other: &ChatState) -> bool {
-    one.spots.as_slice() == other.spots.as_slice()
-        && one.marks.as_slice() == other.marks.as_slice()
+    one.spots.chunks() == other.spots.chunks()
+        && one.marks.chunks() == other.marks.chunks()
         && same_roster(&one.roster, &other.roster)
         && same_setters(&one.setters, &other.setters)
         && one.last == other.last

@@ -1,10 +1,12 @@
 -- The last card that is shown and the number of fresh ones follow from the spots and the marks.
-use Rattle.std.proofs.Common.{◌≡◌, refl, sym, ap, ◌∙◌, ℕ, suc, ◌+◌, ◌<◌, Bool, true, false, cond, Option, Some, None, is_some, List, [], ◌∷◌, ◌++◌, length, get_or, map, take, arith}
-use Rattle.std.specs.Prelude.{if◌then◌else◌, filter, slice_get, option_map}
+use Rattle.std.proofs.Common.{◌≡◌, refl, sym, ap, ◌∙◌, subst, ℕ, suc, ◌+◌, ◌<◌, Bool, true, false, cond, Option, Some, None, is_some, List, [], ◌∷◌, ◌++◌, length, get_or, map, take, arith}
+use Rattle.std.specs.Prelude.{⊤, if◌then◌else◌, filter, slice_get, option_map}
 use Rattle.std.specs.Option.{option_and_then, option_map_or, option_or}
 use Rattle.std.proofs.lemmas.Bool.{false≢true}
 use Rattle.std.proofs.lemmas.List.{length-take-le, take_more}
-use Rattle.std.proofs.lemmas.List.Sums.{sum_by-cons, sum_by-append}
+use Rattle.std.proofs.lemmas.List.Sums.{sum_by-cons}
+use Rattle.chunked_list.specs.Places.{joined}
+use Rattle.chunked_list.proofs.Steps.{joined_next}
 use Rattle.card_type.specs.declared.spot.Spot.{Spot}
 use Rattle.mailbox_model.specs.declared.row.Mark.{Mark}
 use Rattle.mailbox_model.specs.Lists.{Bytes, last_of}
@@ -14,7 +16,7 @@ use Rattle.mailbox_model.specs.States.{Shown, last_spot, fresh_among}
 use Rattle.group_roster.specs.declared.setters.Setters.{Setters}
 use Rattle.group_roster.specs.Setters.{RestsOn}
 use Rattle.chat_view.specs.declared.state.ChatState.{ChatState}
-use Rattle.chat_view.specs.Changes.{count_new, last_shown, settled}
+use Rattle.chat_view.specs.Changes.{IsCounted, count_new, last_shown, settled}
 use Rattle.chat_view.specs.Standing.{IsMarkedFor, StandsFor, placed_at}
 
 -- ---- the marks, from the end on
@@ -32,9 +34,46 @@ last_shown_at ms i n b next below is =
     ap (λ k. last_shown (take k ms)) next ∙ ap last_shown (take_more ms i None below) ∙ last_shown_more (take i ms) (get_or ms i None)
     ∙ (λ k. if is k then Some (length-take-le i ms (omega (arith, below)) k) else last_shown (take i ms))
 
-pub count_new_more : (ms : List (Option Mark)) (m : Option Mark) → count_new (ms ++ m ∷ []) ≡ count_new ms + cond (option_map_or is_new m false) 1 0
-count_new_more ms m =
-    omega (arith, sum_by-append (λ n. cond (option_map_or is_new n false) 1 0) ms (m ∷ []), sum_by-cons (λ n. cond (option_map_or is_new n false) 1 0) m [])
+-- ---- the marks, chunk by chunk
+
+pub last_shown_append : (ms ns : List (Option Mark)) → last_shown (ms ++ ns) ≡ option_or (option_map (λ i. length ms + i) (last_shown ns)) (last_shown ms)
+last_shown_append [] ns = none (last_shown ns)
+  where
+    none : (o : Option ℕ) → o ≡ option_or (option_map (λ i. 0 + i) o) None
+    none None = refl
+    none (Some i) = ap Some (omega arith)
+last_shown_append (m ∷ ms) ns =
+    ap (λ o. option_or (option_map suc o) (if is_some m then Some 0 else None)) (last_shown_append ms ns) ∙ more (last_shown ns)
+  where
+    more : (o : Option ℕ) → option_or (option_map suc (option_or (option_map (λ i. length ms + i) o) (last_shown ms))) (if is_some m then Some 0 else None)
+        ≡ option_or (option_map (λ i. suc (length ms) + i) o) (last_shown (m ∷ ms))
+    more None = refl
+    more (Some i) = ap Some (omega arith)
+
+-- an index, if it is one, is that of a mark
+abbrev Within : Option ℕ → ℕ → Type 0
+Within None n = ⊤
+Within (Some i) n = i < n
+
+pub last_shown_within : (ms : List (Option Mark)) (i : ℕ) → last_shown ms ≡ Some i → i < length ms
+last_shown_within ms i e = subst (λ o. Within o (length ms)) e (bounded ms)
+  where
+    next : (m : Option Mark) (n : ℕ) (o : Option ℕ) → Within o n → Within (option_or (option_map suc o) (if is_some m then Some 0 else None)) (suc n)
+    next m n (Some k) h = omega (arith, h)
+    next None n None h = tt
+    next (Some m) n None h = omega arith
+
+    bounded : (ms : List (Option Mark)) → Within (last_shown ms) (length ms)
+    bounded [] = tt
+    bounded (m ∷ ms) = next m (length ms) (last_shown ms) (bounded ms)
+
+-- all up to a chunk, and that chunk
+pub joined_up_to : (mss : List (List (Option Mark))) (i n : ℕ) → n ≡ i + 1 → i < length mss → joined (take n mss) ≡ joined (take i mss) ++ get_or mss i []
+joined_up_to mss i n next below = ap (λ k. joined (take k mss)) next ∙ joined_next mss i below
+
+pub last_shown_in : (mss : List (List (Option Mark))) (i n : ℕ) → n ≡ i + 1 → i < length mss
+    → last_shown (joined (take n mss)) ≡ option_or (option_map (λ k. length (joined (take i mss)) + k) (last_shown (get_or mss i []))) (last_shown (joined (take i mss)))
+last_shown_in mss i n next below = ap last_shown (joined_up_to mss i n next below) ∙ last_shown_append (joined (take i mss)) (get_or mss i [])
 
 -- ---- of the cards
 
@@ -92,6 +131,9 @@ told_fresh (c ∷ more) =
     sum_by-cons (λ n. cond (option_map_or is_new n false) 1 0) c.mark (marks_of more)
     ∙ ap (λ n. cond (option_map_or is_new c.mark false) 1 0 + n) (told_fresh more)
     ∙ sym (sum_by-cons (λ c. cond (option_map_or is_new c.mark false) 1 0) c more)
+
+pub counted : (cards : List Shown) (s : ChatState) → IsMarkedFor cards s → IsCounted s
+counted cards s is = is.fresh ∙ sym (told_fresh cards) ∙ ap count_new (sym is.marks)
 
 -- ---- the cards of a roster and of its setters
 

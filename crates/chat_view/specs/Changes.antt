@@ -1,5 +1,5 @@
 -- What becomes of the state of a chat where a card comes or goes, or where its row is marked anew.
-use Rattle.std.specs.Prelude.{ℕ, suc, Bool, false, not, ◌<◌, ◌&&◌, ◌||◌, if◌then◌else◌, nat_lt, Option, Some, None, is_some, List, [], ◌∷◌, length, map, count_by, slice_get, slice_set, option_map}
+use Rattle.std.specs.Prelude.{◌≡◌, ℕ, suc, Bool, false, not, ◌<◌, ◌&&◌, ◌||◌, if◌then◌else◌, nat_lt, Option, Some, None, is_some, List, [], ◌∷◌, length, map, count_by, slice_get, slice_set, option_map}
 use Rattle.std.specs.List.{insert, list_all, list_any, remove}
 use Rattle.std.specs.List.Sorted.{IsStrictlySortedBy}
 use Rattle.std.specs.Option.{option_and_then, option_map_or, option_or}
@@ -48,6 +48,14 @@ count_new marks = count_by (λ m. option_map_or is_new m false) marks
 abbrev pub settled : List Spot → List (Option Mark) → ChatState → ChatState
 settled spots marks s =
     record s { spots = spots; marks = marks; last = option_and_then (slice_get spots) (last_shown marks); fresh = count_new marks }
+
+-- the number of fresh cards is that of the marks that are New
+abbrev pub IsCounted : ChatState → Type 0
+IsCounted s = s.fresh ≡ count_new s.marks
+
+-- the last card told of the spots and the marks, and the rest as it is
+abbrev pub with_last : ChatState → ChatState
+with_last s = record s { last = option_and_then (slice_get s.spots) (last_shown s.marks) }
 
 -- with a card put in at an index, with the one there taken out, and with another mark there
 abbrev pub with_at : ℕ → Spot → Option Mark → ChatState → ChatState

@@ -8,18 +8,19 @@ ghost use Rattle.mailbox_model.specs.declared.row.Mark.{Mark};
 ghost use Rattle.mailbox_model.specs.Lists.{Bytes};
 ghost use Rattle.mailbox_model.specs.States.{Shown};
 ghost use Rattle.card_type.specs.declared.card.Card.{Card};
-ghost use Rattle.chat_view.specs.Changes.{AreFew, AreInOrder, count_new, has_spot, last_shown, lets_go, marked_at, settled, takes_in, with_at, without_at};
+ghost use Rattle.chat_view.specs.Changes.{AreFew, AreInOrder, IsCounted, has_spot, last_shown, lets_go, marked_at, takes_in, with_at, with_last, without_at};
 ghost use Rattle.chat_view.specs.Standing.{IsMarkedFor, StandsFor, shown};
 
-use crate::state::ChatState;
+use crate::state::{ChatState, fresh_with, fresh_without};
 use card_type::{Card, Spot};
+use chunked_list::ChunkedList;
 use group_roster::{put_in, take_out};
 use kit::{Addr, Memory};
 use mailbox_model::Mark;
 use std::alloc::Global;
 
 /// The index of the last of the marks that is one.
-fn last_shown(marks: &[Option<Mark>]) -> Option<usize>
+fn last_shown_among(marks: &[Option<Mark>]) -> Option<usize>
     ensures { result ≡ last_shown marks.now }
 {
     let mut index = marks.len();
@@ -32,19 +33,26 @@ fn last_shown(marks: &[Option<Mark>]) -> Option<usize>
     None
 }
 
-/// How many of the marks are New. So many marks as a `u32` holds are never kept.
-fn count_new(marks: &[Option<Mark>]) -> u32
-    ensures { length marks.now < 4294967296 → result ≡ count_new marks.now }
+/// The index of the last of all marks that is one.
+fn last_shown(marks: &ChunkedList<Option<Mark>>) -> Option<usize>
+    ensures { result ≡ last_shown marks.now }
 {
-    let mut count: u32 = 0;
-    for mark in marks {
-        count = count.wrapping_add(u32::from(*mark == Some(Mark::New)));
+    let chunks = marks.chunks();
+    let mut start = marks.len();
+    let mut chunk = chunks.len();
+    while chunk > 0 {
+        chunk -= 1;
+        let values = chunks[chunk].as_slice();
+        start -= values.len();
+        if let Some(index) = last_shown_among(values) {
+            return Some(start + index);
+        }
     }
-    count
+    None
 }
 
 /// A copy of the spot at an index, if there is one.
-fn spot_at(spots: &[Spot], index: Option<usize>) -> Result<Option<Spot>, Memory>
+fn spot_at(spots: &ChunkedList<Spot>, index: Option<usize>) -> Result<Option<Spot>, Memory>
     ensures { IfOk result (λ spot. spot ≡ option_and_then (slice_get spots.now) index) }
 {
     let Some(index) = index else {
@@ -57,32 +65,37 @@ fn spot_at(spots: &[Spot], index: Option<usize>) -> Result<Option<Spot>, Memory>
 }
 
 impl ChatState {
-    /// Tells of the spots and the marks which card is shown last and how many are fresh.
+    /// Tells of the spots and the marks which card is shown last.
     fn settle(&mut self) -> Result<(), Memory>
         ensures key { OnOk result (self.new.key ≡ self.old.key) }
-        ensures told { OnOk result (length self.old.marks < 4294967296 → self.new ≡ settled self.old.spots self.old.marks self.old) }
+        ensures told { OnOk result (self.new ≡ with_last self.old) }
     {
-        let last = last_shown(self.marks.as_slice());
-        self.last = spot_at(self.spots.as_slice(), last)?;
-        self.fresh = count_new(self.marks.as_slice());
+        let last = last_shown(&self.marks);
+        self.last = spot_at(&self.spots, last)?;
         Ok(())
     }
 
     /// Puts the spot and the mark of a card in at an index.
     fn insert(&mut self, index: usize, spot: &Spot, mark: Option<Mark>) -> Result<(), Memory>
         ensures key { OnOk result (self.new.key ≡ self.old.key) }
-        ensures put { OnOk result (length self.old.marks < 4294967295 → self.new ≡ with_at index spot.now mark self.old) }
+        ensures put { OnOk result (length self.old.marks < 4294967295 → IsCounted self.old → self.new ≡ with_at index spot.now mark self.old) }
     {
         self.spots.insert(index, spot.copy()?)?;
         self.marks.insert(index, mark)?;
+        self.fresh = fresh_with(self.fresh, mark);
         self.settle()
     }
 
     /// Takes the spot and the mark of a card out at an index.
     fn remove(&mut self, index: usize) -> Result<(), Memory>
         ensures key { OnOk result (self.new.key ≡ self.old.key) }
-        ensures taken { OnOk result (length self.old.marks < 4294967296 → self.new ≡ without_at index self.old) }
+        ensures taken { OnOk result (IsCounted self.old → self.new ≡ without_at index self.old) }
     {
+        let Some(mark) = self.marks.get(index) else {
+            self.spots.remove(index);
+            return self.settle();
+        };
+        self.fresh = fresh_without(self.fresh, *mark);
         self.spots.remove(index);
         self.marks.remove(index);
         self.settle()
@@ -101,7 +114,7 @@ impl ChatState {
     ) -> Result<bool, Memory>
         ensures key { OnOk result (self.new.key ≡ self.old.key) }
         ensures when { IfOk result (λ taken. taken ≡ stays_with self.old.key self.old.roster self.old.setters (at spot.now card.now)) }
-        ensures taken { IfOk result (λ taken. taken ≡ true → length self.old.marks < 4294967295
+        ensures taken { IfOk result (λ taken. taken ≡ true → length self.old.marks < 4294967295 → IsCounted self.old
             → self.new ≡ with_at index spot.now mark (record self.old { setters = setters_put self.old.key self.old.setters (at spot.now card.now) })) }
         ensures left { IfOk result (λ taken. taken ≡ false → self.new ≡ self.old) }
     {
@@ -123,7 +136,7 @@ impl ChatState {
     fn take_at(&mut self, index: usize, spot: &Spot) -> Result<bool, Memory>
         ensures key { OnOk result (self.new.key ≡ self.old.key) }
         ensures when { IfOk result (λ taken. taken ≡ (nat_lt 1 (length self.old.spots) && stays_without self.old.key self.old.setters spot.now)) }
-        ensures taken { IfOk result (λ taken. taken ≡ true → length self.old.marks < 4294967296
+        ensures taken { IfOk result (λ taken. taken ≡ true → IsCounted self.old
             → self.new ≡ without_at index (record self.old { setters = setters_taken self.old.key self.old.setters spot.now })) }
         ensures left { IfOk result (λ taken. taken ≡ false → self.new ≡ self.old) }
     {
@@ -137,8 +150,12 @@ impl ChatState {
     /// Marks the card at an index of the spots anew.
     fn mark_at(&mut self, index: usize, mark: Option<Mark>) -> Result<(), Memory>
         ensures key { OnOk result (self.new.key ≡ self.old.key) }
-        ensures marked { OnOk result (length self.old.marks < 4294967296 → self.new ≡ marked_at index mark self.old) }
+        ensures marked { OnOk result (length self.old.marks < 4294967296 → IsCounted self.old → self.new ≡ marked_at index mark self.old) }
     {
+        let Some(other) = self.marks.get(index) else {
+            return self.settle();
+        };
+        self.fresh = fresh_with(fresh_without(self.fresh, *other), mark);
         self.marks.set(index, mark);
         self.settle()
     }
@@ -186,7 +203,7 @@ impl ChatState {
             → StandsFor me.now (before ++ shown spot.now card.now mark ∷ after) self.new) }
         ensures left { IfOk result (λ taken. taken ≡ false → self.new ≡ self.old) }
     {
-        match self.spots.as_slice().binary_search(spot) {
+        match self.spots.binary_search(spot) {
             Ok(_) => Ok(false),
             Err(index) => {
                 if index < self.spots.len() {
@@ -215,7 +232,7 @@ impl ChatState {
             → StandsFor me (before ++ after) self.new) }
         ensures left { IfOk result (λ taken. taken ≡ false → self.new ≡ self.old) }
     {
-        match self.spots.as_slice().binary_search(spot) {
+        match self.spots.binary_search(spot) {
             Ok(index) => self.take_at(index, spot),
             Err(_) => Ok(false),
         }
@@ -239,7 +256,7 @@ impl ChatState {
             → IsMarkedFor (before ++ shown spot.now card mark ∷ after) self.new) }
         ensures absent { OnOk result (IsStrictlySortedBy spot_cmp self.old.spots → has_spot self.old spot.now ≡ false → self.new ≡ self.old) }
     {
-        match self.spots.as_slice().binary_search(spot) {
+        match self.spots.binary_search(spot) {
             Ok(index) => self.mark_at(index, mark),
             Err(_) => Ok(()),
         }
@@ -261,7 +278,7 @@ impl ChatState {
             → IsMarkedFor (before ++ shown spot.now card mark ∷ after) self.new) }
         ensures there { OnOk result (IsStrictlySortedBy spot_cmp self.old.spots → has_spot self.old spot.now ≡ true → self.new ≡ self.old) }
     {
-        match self.spots.as_slice().binary_search(spot) {
+        match self.spots.binary_search(spot) {
             Ok(_) => Ok(()),
             Err(index) => self.insert(index, spot, mark),
         }
@@ -281,7 +298,7 @@ impl ChatState {
             → IsMarkedFor (before ++ after) self.new) }
         ensures absent { OnOk result (IsStrictlySortedBy spot_cmp self.old.spots → has_spot self.old spot.now ≡ false → self.new ≡ self.old) }
     {
-        match self.spots.as_slice().binary_search(spot) {
+        match self.spots.binary_search(spot) {
             Ok(index) => self.remove(index),
             Err(_) => Ok(()),
         }

@@ -1,5 +1,5 @@
 //! What is kept of a chat while its cards are added, one after the other.
-ghost use Rattle.std.specs.Prelude.{◌≡◌, ◌<◌, [], ◌∷◌, ◌++◌, List, Some, IfOk, OnOk, length, is_some, if◌then◌else◌, suc, false};
+ghost use Rattle.std.specs.Prelude.{◌≡◌, ◌<◌, ◌-◌, [], ◌∷◌, ◌++◌, List, Some, IfOk, OnOk, length, is_some, if◌then◌else◌, suc, false};
 ghost use Rattle.std.specs.Option.{option_map_or};
 ghost use Rattle.mailbox_model.specs.Rows.{is_new};
 ghost use Rattle.mailbox_model.specs.States.{Shown};
@@ -7,9 +7,9 @@ ghost use Rattle.chat_view.specs.Changes.{AreFew};
 ghost use Rattle.chat_view.specs.Standing.{StandsFor, last_date, shown};
 
 use card_type::{Card, ChatKey, Spot};
+use chunked_list::ChunkedList;
 use group_roster::{Setters, add_at, begin};
 use kit::{Addr, Memory};
-use lists::Items;
 use mailbox_model::{Mark, Roster};
 use std::alloc::Global;
 
@@ -19,9 +19,9 @@ pub struct ChatState {
     /// The key of the chat.
     pub key: ChatKey,
     /// The spots of its cards, in mail order.
-    pub spots: Items<Spot>,
+    pub spots: ChunkedList<Spot>,
     /// The marks of the rows of its cards, in mail order; `None` where a card is not shown.
-    pub marks: Items<Option<Mark>>,
+    pub marks: ChunkedList<Option<Mark>>,
     /// Who is in it, how it is called, and when its mails vanish.
     pub roster: Roster,
     /// The cards on which the roster rests.
@@ -44,11 +44,22 @@ fn renew_last(last: &mut Option<Spot>, spot: &Spot, mark: Option<Mark>) -> Resul
 
 /// How many cards are fresh with one more. The number never comes near what a `u32` holds, since no more are fresh than
 /// there are.
-fn fresh_with(fresh: u32, mark: Option<Mark>) -> u32
+pub(crate) fn fresh_with(fresh: u32, mark: Option<Mark>) -> u32
     ensures { fresh < 4294967295 → result ≡ (if option_map_or is_new mark false then suc fresh else fresh) }
 {
     if mark == Some(Mark::New) {
         fresh.saturating_add(1)
+    } else {
+        fresh
+    }
+}
+
+/// How many cards are fresh with one less.
+pub(crate) fn fresh_without(fresh: u32, mark: Option<Mark>) -> u32
+    ensures { result ≡ (if option_map_or is_new mark false then fresh - 1 else fresh) }
+{
+    if mark == Some(Mark::New) {
+        fresh.saturating_sub(1)
     } else {
         fresh
     }
@@ -67,8 +78,8 @@ impl ChatState {
         let roster = begin(alloc, &key, me)?;
         Ok(ChatState {
             key,
-            spots: Items::new(alloc),
-            marks: Items::new(alloc),
+            spots: ChunkedList::new(alloc),
+            marks: ChunkedList::new(alloc),
             roster,
             setters: Setters::new(alloc),
             last: None,

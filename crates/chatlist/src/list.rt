@@ -1,5 +1,5 @@
 //! The list of chats in order.
-ghost use Rattle.std.specs.Prelude.{◌≡◌, [], map, true, OnOk, OnErr};
+ghost use Rattle.std.specs.Prelude.{◌≡◌, [], map, OnOk, OnErr};
 ghost use Rattle.std.specs.List.{IsDistinct};
 ghost use Rattle.std.specs.List.Sorted.{IsStrictlySortedBy};
 ghost use Rattle.card_type.specs.Keys.{key_eq};

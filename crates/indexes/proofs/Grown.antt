@@ -15,11 +15,10 @@ use Rattle.card_type.specs.Kinds.{has_some, is_content, kind_of}
 use Rattle.chat_view.specs.declared.state.ChatState.{ChatState}
 use Rattle.chat_view.specs.Standing.{shown, state_of}
 use Rattle.mailbox_model.specs.declared.row.Mark.{Mark}
-use Rattle.mailbox_model.specs.declared.row.Row.{Row}
 use Rattle.mailbox_model.specs.Mailbox.{Mailbox}
 use Rattle.mailbox_model.specs.Present.{Mail, spot}
 use Rattle.mailbox_model.specs.Chats.{chat, is_chat}
-use Rattle.mailbox_model.specs.Rows.{expiry, row}
+use Rattle.mailbox_model.specs.Rows.{row}
 use Rattle.mailbox_model.specs.States.{Shown, shown_as}
 use Rattle.mailbox_model.specs.Turns.{is_mail}
 use Rattle.mailbox_model.proofs.ChatLaws.{or_none}

@@ -2,7 +2,7 @@
 use Rattle.std.proofs.Common.{Bor, ◌≡◌, refl, sym, ap, ◌∙◌, subst, ℕ, Bool, true, false, cond, Option, Some, None, Result, Ok, Err, List, [], ◌∷◌, map}
 use Rattle.std.specs.Prelude.{◌==◌, find, is_some}
 use Rattle.std.specs.List.{AllByRecursion, IsDistinct}
-use Rattle.std.specs.Option.{option_map, option_and_then, option_copied}
+use Rattle.std.specs.Option.{option_map, option_copied}
 use Rattle.std.specs.Result.{result_ok}
 use Rattle.std.proofs.lemmas.Bool.{eqb-true}
 use Rattle.kit.specs.Options.{◌>>=◌}
@@ -10,7 +10,7 @@ use Rattle.lists.proofs.Inserts.{found_all, found_passes}
 use Rattle.card_type.specs.declared.card.Card.{Card}
 use Rattle.card_type.specs.declared.spot.Spot.{Spot}
 use Rattle.mailbox_model.specs.declared.change.Fault.{Fault}
-use Rattle.mailbox_model.specs.Mailbox.{Mailbox, Entry, IsMailbox, card_at, entry_at, item_at, item_of}
+use Rattle.mailbox_model.specs.Mailbox.{Mailbox, Entry, IsMailbox, card_at, entry_at}
 use Rattle.mailbox_model.specs.Present.{Placed, Mail, mail_at, mail_by, mail_of, has_id, same_id, spot, spot_of, present}
 use Rattle.mailbox_model.proofs.ChatLaws.{same_bytes}
 use Rattle.mailbox_model.proofs.MailLaws.{bytes_turn}

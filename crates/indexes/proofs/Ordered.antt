@@ -4,7 +4,7 @@ use Rattle.std.specs.Prelude.{◌==◌, ◌&&◌, if◌then◌else◌, find, fil
 use Rattle.std.specs.Option.{option_map}
 use Rattle.std.specs.Ordering.{is_lt}
 use Rattle.std.specs.declared.cmp.Ordering.{Ordering}
-use Rattle.std.proofs.lemmas.Bool.{both_ways, eqb-true, false≢true}
+use Rattle.std.proofs.lemmas.Bool.{both_ways, eqb-true}
 use Rattle.lists.specs.Sorted.{insert_by}
 use Rattle.lists.proofs.Inserts.{None_of, find-filter, find-insert_by}
 use Rattle.card_type.specs.declared.key.ChatKey.{ChatKey}

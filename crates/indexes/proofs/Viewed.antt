@@ -1,16 +1,14 @@
 -- What is told ahead of a change is so of the mailbox that is seen.
-use Rattle.std.proofs.Common.{Bor, ◌≡◌, refl, sym, ap, ◌∙◌, subst, ℕ, true, false, Bool, Option, Some, None}
-use Rattle.std.specs.Prelude.{◌==◌, find, if◌then◌else◌, unwrap_or}
+use Rattle.std.proofs.Common.{Bor, ◌≡◌, refl, sym, ap, ◌∙◌, ℕ, true, false, Bool, Option, Some, None}
+use Rattle.std.specs.Prelude.{◌==◌, if◌then◌else◌, unwrap_or}
 use Rattle.std.specs.Option.{option_copied, option_map, option_or}
 use Rattle.std.proofs.lemmas.Bool.{eqb-true}
 use Rattle.lists.proofs.Inserts.{found_passes}
-use Rattle.card_type.specs.declared.card.Card.{Card}
-use Rattle.card_type.specs.declared.spot.Spot.{Spot}
 use Rattle.mailbox_model.specs.declared.change.Change.{Change}
 use Rattle.mailbox_model.specs.declared.item.Item.{Item}
 use Rattle.mailbox_model.specs.declared.turn.Turn.{Turn}
 use Rattle.mailbox_model.specs.Lists.{Bytes}
-use Rattle.mailbox_model.specs.Mailbox.{Mailbox, Entry, after, card_at, entry_at, has_uid, item_at, item_of, mark_entry, marked_at, IsMailbox}
+use Rattle.mailbox_model.specs.Mailbox.{Mailbox, Entry, after, entry_at, has_uid, item_at, item_of, mark_entry, marked_at, IsMailbox}
 use Rattle.mailbox_model.specs.Present.{spot_of}
 use Rattle.mailbox_model.specs.Turns.{turn}
 use Rattle.mailbox_model.proofs.RuleLaws.{change_keeps}
@@ -18,7 +16,7 @@ use Rattle.mailbox_model.proofs.TurnLaws.{turn_law}
 use Rattle.touched_chats.specs.Ahead.{entry_ahead, spot_ahead, now_ahead}
 use Rattle.touched_chats.proofs.Ahead.{entries_ahead, spots_ahead, moment_ahead}
 use Rattle.indexes.specs.declared.view.Coming.{Coming}
-use Rattle.indexes.specs.Views.{AllowsComing, IsComing, card_of, seen_at, seen_of, seen_with}
+use Rattle.indexes.specs.Views.{AllowsComing, IsComing, seen_of, seen_with}
 
 module _ (m : Mailbox) (change : Change) (turns : Turn) (is : IsComing m change turns) where
   pub entry_seen : (uid : ℕ) → entry_ahead m change uid ≡ entry_at (after m change) uid

@@ -1,5 +1,5 @@
 //! The answers to the questions, from a mailbox and what is kept beside it.
-ghost use Rattle.std.specs.Prelude.{◌≡◌, ◌≤◌, ◌+◌, true, Some, None, is_some, map, unwrap_or, filter_map, IfOk, IfSome};
+ghost use Rattle.std.specs.Prelude.{◌≡◌, ◌≤◌, ◌+◌, ◌++◌, true, Some, None, is_some, map, unwrap_or, filter_map, IfOk, IfSome, OnOk};
 ghost use Rattle.std.specs.FinMap as map_of;
 ghost use Rattle.std.specs.List.{AllByRecursion, sum_by};
 ghost use Rattle.std.specs.Option.{option_and_then, option_copied, option_map_or};
@@ -23,6 +23,7 @@ use crate::rows::row_at;
 use box_state::{Held, Item, Mailbox};
 use card_type::{ChatKey, KeyMap, Spot};
 use chat_view::{ChatState, chat_row, page_name};
+use chunked_list::ChunkedList;
 use contacts::Contacts;
 use effects::Effects;
 use kit::{Id, Memory, Steps, Text};
@@ -122,7 +123,7 @@ impl Indexes {
         match self.chats.get(key) {
             None => Ok(None),
             Some(state) => {
-                let rows = rows_at(alloc, mailbox, &self.effects, state.spots.as_slice(), steps)?;
+                let rows = rows_at(alloc, mailbox, &self.effects, &state.spots, steps)?;
                 let contact = contact_of(&self.contacts, key);
                 Ok(Some(chat_page(alloc, key, &state.roster, contact, rows)?))
             }
@@ -216,12 +217,34 @@ fn last_row<L: Ledger>(
     }
 }
 
+/// Adds the rows of the cards at these spots that are shown.
+fn add_rows<L: Ledger>(
+    alloc: Global,
+    mailbox: &Mailbox,
+    effects: &Effects,
+    spots: &[Spot],
+    rows: &mut Items<Row>,
+    steps: &mut Steps<L>,
+) -> Result<(), Memory>
+    requires there { AllByRecursion (λ spot. spot_at mailbox.now.mailbox spot.uid ≡ Some spot) spots.now }
+    requires effects { AreEffects effects.now (present_cards mailbox.now.mailbox) }
+    ensures rows { OnOk result (rows.new ≡ rows.old ++ filter_map (λ spot. option_and_then (row mailbox.now.mailbox) (mail_at mailbox.now.mailbox spot.uid)) spots.now) }
+    ensures cost { steps.new ≤ steps.old + sum_by (λ spot. 1 + times_named mailbox.now.mailbox spot.id) spots.now }
+{
+    for spot in spots {
+        if let Some(row) = row_at(alloc, mailbox, effects, spot, steps)? {
+            rows.push(row)?;
+        }
+    }
+    Ok(())
+}
+
 /// The rows of the cards at these spots that are shown.
 fn rows_at<L: Ledger>(
     alloc: Global,
     mailbox: &Mailbox,
     effects: &Effects,
-    spots: &[Spot],
+    spots: &ChunkedList<Spot>,
     steps: &mut Steps<L>,
 ) -> Result<Items<Row>, Memory>
     requires there { AllByRecursion (λ spot. spot_at mailbox.now.mailbox spot.uid ≡ Some spot) spots.now }
@@ -229,11 +252,10 @@ fn rows_at<L: Ledger>(
     ensures rows { IfOk result (λ rows. rows ≡ filter_map (λ spot. option_and_then (row mailbox.now.mailbox) (mail_at mailbox.now.mailbox spot.uid)) spots.now) }
     ensures cost { steps.new ≤ steps.old + sum_by (λ spot. 1 + times_named mailbox.now.mailbox spot.id) spots.now }
 {
+    let chunks = spots.chunks();
     let mut rows = Items::new(alloc);
-    for spot in spots {
-        if let Some(row) = row_at(alloc, mailbox, effects, spot, steps)? {
-            rows.push(row)?;
-        }
+    for chunk in chunks {
+        add_rows(alloc, mailbox, effects, chunk.as_slice(), &mut rows, steps)?;
     }
     Ok(rows)
 }

@@ -4,7 +4,6 @@ use Rattle.std.specs.List.{AllByRecursion, list_any}
 use Rattle.std.specs.List.Sorted.{IsStrictlySortedBy}
 use Rattle.std.specs.Map.{lookup}
 use Rattle.std.specs.Prelude.{unwrap_or}
-use Rattle.std.specs.BTreeMap.{is_at}
 use Rattle.std.specs.Cmp.Lexicographic.{slice_cmp, bytes_decides}
 use Rattle.std.specs.declared.cmp.Ordering.TheVariants.{Less}
 use Rattle.std.specs.Option.{option_copied, option_eq}
@@ -19,7 +18,6 @@ use Rattle.mailbox_model.specs.declared.links.Cites.{Cites}
 use Rattle.mailbox_model.specs.Chats.{chat_among}
 use Rattle.mailbox_model.specs.Lists.{Bytes}
 use Rattle.mailbox_model.proofs.ListLaws.{key_self}
-use Rattle.mailbox_model.proofs.MailLaws.{bytes_turn}
 use Rattle.repair.specs.Moves.{chat_before}
 use Rattle.repair.proofs.Noted.{Entries}
 

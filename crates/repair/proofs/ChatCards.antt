@@ -17,7 +17,7 @@ use Rattle.mailbox_model.specs.Lists.{Bytes}
 use Rattle.mailbox_model.specs.Mailbox.{Mailbox, IsMailbox}
 use Rattle.mailbox_model.specs.Present.{Mail, mail_cmp, has_id, same_id, spot, contents, present}
 use Rattle.mailbox_model.specs.Chats.{chat, chat_mails, is_chat}
-use Rattle.mailbox_model.specs.States.{Shown, chat_cards, shown_as}
+use Rattle.mailbox_model.specs.States.{chat_cards, shown_as}
 use Rattle.mailbox_model.proofs.PresentLaws.{present_once, present_sorted}
 use Rattle.chat_states.specs.Families.{AreCardsOf}
 use Rattle.touched_chats.proofs.Near.{is_content_mail}

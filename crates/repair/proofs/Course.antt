@@ -1,5 +1,5 @@
 -- The course of a repair: what holds at its beginning, what it may read, and what holds at its end.
-use Rattle.std.proofs.Common.{◌≡◌, refl, sym, ap, ◌∙◌, subst, ℕ, ◌+◌, ◌≤◌, Bool, true, false, ◌||◌, Option, None, List, [], length, map, arith}
+use Rattle.std.proofs.Common.{◌≡◌, refl, sym, ap, ◌∙◌, subst, ℕ, ◌+◌, ◌≤◌, Bool, true, false, None, List, [], length, map}
 use Rattle.std.specs.Prelude.{if◌then◌else◌, nat_eq, sum_by}
 use Rattle.std.specs.FinMap as map_of
 use Rattle.std.specs.List.{list_any, AllByRecursion, IsDistinct}
@@ -17,7 +17,7 @@ use Rattle.mailbox_model.specs.Chats.{chat_mails}
 use Rattle.mailbox_model.specs.Lists.{Bytes}
 use Rattle.mailbox_model.specs.Mailbox.{Mailbox, after, IsMailbox}
 use Rattle.mailbox_model.specs.Present.{present}
-use Rattle.mailbox_model.specs.Turns.{turn, IsTurn}
+use Rattle.mailbox_model.specs.Turns.{IsTurn}
 use Rattle.mailbox_model.proofs.ChatLaws.{same_bytes}
 use Rattle.mailbox_model.proofs.RuleLaws.{change_keeps}
 use Rattle.touched_chats.specs.Costs.{change_cost, settle_reads, touched_keys, AreHeld}

@@ -1,14 +1,13 @@
 -- The spots of the state of a chat are those of its cards, which are read at them.
-use Rattle.std.proofs.Common.{◌≡◌, refl, sym, ap, ◌∙◌, subst, ◌≤◌, Bool, true, false, Option, Some, None, List, [], ◌∷◌, length, map, arith}
-use Rattle.std.specs.Prelude.{filter, filter_map, is_some}
+use Rattle.std.proofs.Common.{◌≡◌, refl, ap, ◌∙◌, Bool, true, Option, Some, None, List, [], ◌∷◌, length, map}
+use Rattle.std.specs.Prelude.{is_some}
 use Rattle.std.specs.List.{AllByRecursion, cons_option}
-use Rattle.std.specs.Option.{option_map, option_to_list}
+use Rattle.std.specs.Option.{option_map}
 use Rattle.std.proofs.lemmas.List.{length-map}
 use Rattle.lists.proofs.Inserts.{All-filter}
-use Rattle.card_type.specs.declared.card.Card.{Card}
 use Rattle.card_type.specs.declared.key.ChatKey.{ChatKey}
 use Rattle.card_type.specs.declared.spot.Spot.{Spot}
-use Rattle.group_roster.specs.Setters.{At, at}
+use Rattle.group_roster.specs.Setters.{at}
 use Rattle.chat_view.specs.declared.state.ChatState.{ChatState}
 use Rattle.chat_view.specs.Standing.{placed_at}
 use Rattle.mailbox_model.specs.Lists.{Bytes}

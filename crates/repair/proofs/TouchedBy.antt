@@ -1,7 +1,6 @@
 -- The chats of the suspect cards, and those of renamed contacts that are there, are the touched ones.
-use Rattle.std.proofs.Common.{◌≡◌, refl, sym, ap, ◌∙◌, subst, Bool, true, false, ◌||◌, ◌&&◌, not, Option, Some, List, [], ◌∷◌, length, arith, ◌⊎◌, inl, inr, ⊎_elim}
-use Rattle.std.specs.List.{list_any, AllByRecursion}
-use Rattle.std.specs.Option.{option_eq}
+use Rattle.std.proofs.Common.{◌≡◌, refl, sym, ap, ◌∙◌, subst, Bool, true, false, ◌||◌, ◌&&◌, List, [], ◌∷◌, length, arith, ◌⊎◌, inl, inr, ⊎_elim}
+use Rattle.std.specs.List.{list_any}
 use Rattle.std.specs.Str.{bytes_eq}
 use Rattle.std.specs.Cmp.Lexicographic.{bytes_decides}
 use Rattle.std.proofs.lemmas.Bool.{both_ways, or_cases, or_left, or_right, or_parts, and_from, lt-ltb}
@@ -14,7 +13,6 @@ use Rattle.mailbox_model.specs.Lists.{Bytes}
 use Rattle.mailbox_model.specs.Mailbox.{Mailbox}
 use Rattle.mailbox_model.specs.Present.{Mail, has_id}
 use Rattle.mailbox_model.specs.Chats.{chat, chat_mails, cites, is_chat}
-use Rattle.mailbox_model.specs.Pages.{keys}
 use Rattle.mailbox_model.proofs.ChatLaws.{same_bytes}
 use Rattle.mailbox_model.proofs.ListLaws.{key_self, keys_are}
 use Rattle.touched_chats.specs.Costs.{touched_keys, AreHeld}

@@ -1,5 +1,5 @@
 -- The cards of a mailbox by chat and id, and the indexes while some of the cards are still as in the mailbox before.
-use Rattle.std.specs.Prelude.{◌≡◌, ℕ, false, true, Bool, ◌==◌, if◌then◌else◌, Option, Some, None, List, [], find, filter_map, option_map}
+use Rattle.std.specs.Prelude.{◌≡◌, ℕ, false, true, Bool, ◌==◌, if◌then◌else◌, Option, None, List, [], find, filter_map, option_map}
 use Rattle.std.specs.FinMap as map_of
 use Rattle.std.specs.Option.{option_map_or}
 use Rattle.card_type.specs.Effects.{is_among}

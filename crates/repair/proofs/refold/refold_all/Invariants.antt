@@ -1,4 +1,4 @@
-use Rattle.std.proofs.Common.{◌≡◌, ◌≤◌, ◌+◌, ◌++◌, List, false, length}
+use Rattle.std.proofs.Common.{◌≡◌, ◌≤◌, ◌+◌, false, length}
 use Rattle.std.specs.Prelude.{sum_by}
 use Rattle.std.specs.FinMap as map_of
 use Rattle.card_type.specs.declared.key.ChatKey.{ChatKey}

@@ -1,4 +1,4 @@
-use Rattle.std.proofs.Common.{◌≡◌, sym, ap, ◌∙◌, subst, ◌≤◌, ◌+◌, ◌||◌, ◌&&◌, [], arith}
+use Rattle.std.proofs.Common.{◌≡◌, sym, ◌∙◌, subst, ◌||◌, ◌&&◌, [], arith}
 use Rattle.std.specs.Prelude.{is_some}
 use Rattle.std.specs.FinMap as map_of
 use Rattle.std.specs.Str.{bytes_eq}

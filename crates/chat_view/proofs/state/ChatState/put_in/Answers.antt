@@ -1,6 +1,6 @@
 use Rattle.std.proofs.Common.{refl, sym, ap, ◌∙◌, subst, ◌<◌, ◌≤◌, not, ◌&&◌, ◌||◌, is_ok, Err, ◌∷◌, ◌++◌, length, arith, append-nil}
 use Rattle.std.specs.List.{list_all}
-use Rattle.std.specs.List.Sorted.{IsBinarySearchResult, IsSearchInRange}
+use Rattle.std.specs.List.Sorted.{IsBinarySearchResult}
 use Rattle.std.specs.Ordering.{is_lt}
 use Rattle.std.proofs.lemmas.Result.{IfOk-weaker}
 use Rattle.card_type.specs.Spots.{spot_cmp}
@@ -12,15 +12,15 @@ use Rattle.chat_view.specs.Changes.{AreFew}
 use Rattle.chat_view.specs.Standing.{StandsFor, shown}
 use Rattle.chat_view.proofs.Changed.{few_without, put_last, put_place, put_stands, on_ok_each}
 use Rattle.chat_view.proofs.Placed.{all_below, none_ties, one_above}
-use Rattle.chat_view.proofs.Told.{marked_from}
+use Rattle.chat_view.proofs.Told.{counted, marked_from}
 use Rattle.chat_view.proofs.state.ChatState.put_in.Goals as goal
 
 pub returns-in-Ok-clause-when : goal.returns-in-Ok-clause-when
 returns-in-Ok-clause-when c sorted =
     let spots = c.args.self.now.spots in
     let spot = c.args.spot.now in
-    let range = subst (λ xs. IsSearchInRange c.binary_search.result (length xs)) c.as_slice.ensures c.binary_search.ensures.bound in
-    let found = subst (λ xs. IsBinarySearchResult (λ y. spot_cmp y spot) xs c.binary_search.result) c.as_slice.ensures c.binary_search.ensures.position in
+    let range = c.binary_search.ensures.bound in
+    let found = c.binary_search.ensures.position in
     let there = sym (searched spot_cmp spots_total spot spots c.binary_search.result sorted range found) ∙ ap is_ok c.in-Ok.is in
     rw there refl
 
@@ -30,8 +30,8 @@ returns-then-index-len-clause-when c =
     let spot = c.args.spot.now in
     let stays = stays_with state.key state.roster state.setters (at spot c.args.card.now) in
     let i = c.in-Err.index in
-    let within : i ≤ length state.spots = subst (λ xs. i ≤ length xs) c.as_slice.ensures c.in-Err.ensures.bound in
-    let found : IsBinarySearchResult (λ y. spot_cmp y spot) state.spots (Err i) = subst (λ xs. IsBinarySearchResult (λ y. spot_cmp y spot) xs (Err i)) c.as_slice.ensures c.in-Err.ensures.position in
+    let within : i ≤ length state.spots = c.in-Err.ensures.bound in
+    let found : IsBinarySearchResult (λ y. spot_cmp y spot) state.spots (Err i) = c.in-Err.ensures.position in
     let below : i < length state.spots = omega (arith, c.len.ensures, c.if-index-len.true) in
     IfOk-weaker c.put_among.result _ _ (λ taken is sorted.
     let none = none_ties spot_cmp spots_total spot state.spots sorted i within found in
@@ -47,12 +47,12 @@ returns-then-index-len-clause-taken c =
     let mark = c.args.mark in
     let me = c.args.me.now in
     let i = c.in-Err.index in
-    let within : i ≤ length state.spots = subst (λ xs. i ≤ length xs) c.as_slice.ensures c.in-Err.ensures.bound in
-    let found : IsBinarySearchResult (λ y. spot_cmp y spot) state.spots (Err i) = subst (λ xs. IsBinarySearchResult (λ y. spot_cmp y spot) xs (Err i)) c.as_slice.ensures c.in-Err.ensures.position in
+    let within : i ≤ length state.spots = c.in-Err.ensures.bound in
+    let found : IsBinarySearchResult (λ y. spot_cmp y spot) state.spots (Err i) = c.in-Err.ensures.position in
     both_clauses c.put_among.result _ _ _ (λ taken when put yes before after few order is.
     let marked = marked_from me (before ++ after) state is in
     let place = put_place before spot card mark after state marked.spots order i within found in
-    subst (StandsFor me (before ++ shown spot card mark ∷ after)) (sym (put yes (few_without before spot card mark after state marked few)))
+    subst (StandsFor me (before ++ shown spot card mark ∷ after)) (sym (put yes (few_without before spot card mark after state marked few) (counted (before ++ after) state marked)))
     (put_stands before spot card mark after state i place me is order (sym when ∙ yes)))
     c.put_among.ensures.when c.put_among.ensures.taken
 
@@ -62,8 +62,8 @@ returns-else-index-len-clause-when c =
     let spot = c.args.spot.now in
     let stays = stays_with state.key state.roster state.setters (at spot c.args.card.now) in
     let i = c.in-Err.index in
-    let within : i ≤ length state.spots = subst (λ xs. i ≤ length xs) c.as_slice.ensures c.in-Err.ensures.bound in
-    let found : IsBinarySearchResult (λ y. spot_cmp y spot) state.spots (Err i) = subst (λ xs. IsBinarySearchResult (λ y. spot_cmp y spot) xs (Err i)) c.as_slice.ensures c.in-Err.ensures.position in
+    let within : i ≤ length state.spots = c.in-Err.ensures.bound in
+    let found : IsBinarySearchResult (λ y. spot_cmp y spot) state.spots (Err i) = c.in-Err.ensures.position in
     let end : length state.spots ≤ i = omega (arith, c.len.ensures, c.if-index-len.false) in
     IfOk-weaker c.put_last.result _ _ (λ taken is sorted.
     let none = none_ties spot_cmp spots_total spot state.spots sorted i within found in
@@ -79,8 +79,8 @@ returns-else-index-len-clause-taken c =
     let mark = c.args.mark in
     let me = c.args.me.now in
     let i = c.in-Err.index in
-    let within : i ≤ length state.spots = subst (λ xs. i ≤ length xs) c.as_slice.ensures c.in-Err.ensures.bound in
-    let found : IsBinarySearchResult (λ y. spot_cmp y spot) state.spots (Err i) = subst (λ xs. IsBinarySearchResult (λ y. spot_cmp y spot) xs (Err i)) c.as_slice.ensures c.in-Err.ensures.position in
+    let within : i ≤ length state.spots = c.in-Err.ensures.bound in
+    let found : IsBinarySearchResult (λ y. spot_cmp y spot) state.spots (Err i) = c.in-Err.ensures.position in
     let end : length state.spots ≤ i = omega (arith, c.len.ensures, c.if-index-len.false) in
     on_ok_each c.put_last.result (λ stands taken yes before after few order is.
     let spots = ap (λ t. t.spots) is in

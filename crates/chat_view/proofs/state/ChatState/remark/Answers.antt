@@ -1,7 +1,4 @@
-use Rattle.std.proofs.Common.{◌≡◌, sym, ap, ◌∙◌, subst, ◌<◌, is_ok, ◌∷◌, ◌++◌, length}
-use Rattle.std.specs.List.{HoldsAt}
-use Rattle.std.specs.List.Sorted.{IsBinarySearchResult, IsSearchInRange}
-use Rattle.std.specs.declared.cmp.Ordering.TheVariants.{Equal}
+use Rattle.std.proofs.Common.{sym, ap, ◌∙◌, subst, is_ok, ◌∷◌, ◌++◌}
 use Rattle.std.proofs.lemmas.Bool.{false≢true}
 use Rattle.std.proofs.lemmas.Result.{on_ok_weaker}
 use Rattle.card_type.specs.Spots.{spot_cmp}
@@ -9,7 +6,7 @@ use Rattle.card_type.proofs.Orders.{spots_total}
 use Rattle.sorted_lists.proofs.Searches.{searched}
 use Rattle.chat_view.specs.Standing.{IsMarkedFor, StandsFor, shown}
 use Rattle.chat_view.proofs.Changed.{few_with, marked_stands, remarked, sorted_there, there, there_place}
-use Rattle.chat_view.proofs.Told.{marked_from}
+use Rattle.chat_view.proofs.Told.{counted, marked_from}
 use Rattle.chat_view.proofs.state.ChatState.remark.Goals as goal
 
 pub returns-in-Ok-clause-stands : goal.returns-in-Ok-clause-stands
@@ -18,11 +15,11 @@ returns-in-Ok-clause-stands c =
     let state = c.args.self.now in
     let spot = c.args.spot.now in
     let i = c.in-Ok.index in
-    let within = subst (λ xs. i < length xs) c.as_slice.ensures c.in-Ok.ensures.bound in
-    let found = subst (λ xs. HoldsAt (λ y. spot_cmp y spot ≡ Equal) xs i) c.as_slice.ensures c.in-Ok.ensures.ok in
+    let within = c.in-Ok.ensures.bound in
+    let found = c.in-Ok.ensures.position in
     let marked = marked_from me (before ++ shown spot card other ∷ after) state is in
     let place = there_place before spot card other after state marked.spots order i within found in
-    subst (StandsFor me (before ++ shown spot card c.args.mark ∷ after)) (sym (set (few_with before spot card other after state marked few)))
+    subst (StandsFor me (before ++ shown spot card c.args.mark ∷ after)) (sym (set (few_with before spot card other after state marked few) (counted (before ++ shown spot card other ∷ after) state marked)))
     (marked_stands before spot card other after state i place me is c.args.mark))
     c.mark_at.ensures.marked
 
@@ -30,8 +27,8 @@ pub returns-in-Err-clause-stands : goal.returns-in-Err-clause-stands
 returns-in-Err-clause-stands c me before after card other few order is =
     let state = c.args.self.now in
     let spot = c.args.spot.now in
-    let range = subst (λ xs. IsSearchInRange c.binary_search.result (length xs)) c.as_slice.ensures c.binary_search.ensures.bound in
-    let found = subst (λ xs. IsBinarySearchResult (λ y. spot_cmp y spot) xs c.binary_search.result) c.as_slice.ensures c.binary_search.ensures.position in
+    let range = c.binary_search.ensures.bound in
+    let found = c.binary_search.ensures.position in
     let spots = ap (λ t. t.spots) is in
     let absent = sym (searched spot_cmp spots_total spot state.spots c.binary_search.result (sorted_there before spot card other after state spots order) range found) ∙ ap is_ok c.in-Err.is in
     absurd (false≢true (sym absent ∙ there before spot card other after state spots order))
@@ -42,10 +39,10 @@ returns-in-Ok-clause-marked c =
     let state = c.args.self.now in
     let spot = c.args.spot.now in
     let i = c.in-Ok.index in
-    let within = subst (λ xs. i < length xs) c.as_slice.ensures c.in-Ok.ensures.bound in
-    let found = subst (λ xs. HoldsAt (λ y. spot_cmp y spot ≡ Equal) xs i) c.as_slice.ensures c.in-Ok.ensures.ok in
+    let within = c.in-Ok.ensures.bound in
+    let found = c.in-Ok.ensures.position in
     let place = there_place before spot card other after state is.spots order i within found in
-    subst (IsMarkedFor (before ++ shown spot card c.args.mark ∷ after)) (sym (set (few_with before spot card other after state is few)))
+    subst (IsMarkedFor (before ++ shown spot card c.args.mark ∷ after)) (sym (set (few_with before spot card other after state is few) (counted (before ++ shown spot card other ∷ after) state is)))
     (remarked before spot card other after state i place c.args.mark is))
     c.mark_at.ensures.marked
 
@@ -53,8 +50,8 @@ pub returns-in-Err-clause-marked : goal.returns-in-Err-clause-marked
 returns-in-Err-clause-marked c before after card other few order is =
     let state = c.args.self.now in
     let spot = c.args.spot.now in
-    let range = subst (λ xs. IsSearchInRange c.binary_search.result (length xs)) c.as_slice.ensures c.binary_search.ensures.bound in
-    let found = subst (λ xs. IsBinarySearchResult (λ y. spot_cmp y spot) xs c.binary_search.result) c.as_slice.ensures c.binary_search.ensures.position in
+    let range = c.binary_search.ensures.bound in
+    let found = c.binary_search.ensures.position in
     let absent = sym (searched spot_cmp spots_total spot state.spots c.binary_search.result (sorted_there before spot card other after state is.spots order) range found) ∙ ap is_ok c.in-Err.is in
     absurd (false≢true (sym absent ∙ there before spot card other after state is.spots order))
 
@@ -63,8 +60,8 @@ returns-in-Ok-clause-absent c =
     on_ok_weaker c.mark_at.result (λ _ sorted none.
     let spot = c.args.spot.now in
     let spots = c.args.self.now.spots in
-    let range = subst (λ xs. IsSearchInRange c.binary_search.result (length xs)) c.as_slice.ensures c.binary_search.ensures.bound in
-    let found = subst (λ xs. IsBinarySearchResult (λ y. spot_cmp y spot) xs c.binary_search.result) c.as_slice.ensures c.binary_search.ensures.position in
+    let range = c.binary_search.ensures.bound in
+    let found = c.binary_search.ensures.position in
     let there = sym (searched spot_cmp spots_total spot spots c.binary_search.result sorted range found) ∙ ap is_ok c.in-Ok.is in
     absurd (false≢true (sym none ∙ there)))
     c.mark_at.ensures.marked

@@ -5,7 +5,7 @@ use Rattle.std.specs.Option.{option_map}
 use Rattle.chat_view.specs.Standing.{shown, state_of}
 use Rattle.effects.specs.Named.{StandsFor as AreEffects}
 use Rattle.mailbox_model.specs.Mailbox.{card_at}
-use Rattle.mailbox_model.specs.Present.{Mail, mail_at, present_cards}
+use Rattle.mailbox_model.specs.Present.{mail_at, present_cards}
 use Rattle.mailbox_model.specs.Rows.{row}
 use Rattle.mailbox_model.specs.Turns.{is_mail}
 use Rattle.indexes.specs.Kept.{deadline_at, deadline_of, spot_at}

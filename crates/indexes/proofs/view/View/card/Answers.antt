@@ -1,4 +1,4 @@
-use Rattle.std.proofs.Common.{◌≡◌, sym, ap, ◌∙◌, subst}
+use Rattle.std.proofs.Common.{sym, ap, ◌∙◌, subst}
 use Rattle.mailbox_model.specs.Mailbox.{card_at}
 use Rattle.indexes.specs.Views.{AllowsComing, card_of, seen_with}
 use Rattle.indexes.proofs.Viewed.{entry_seen}

@@ -1,4 +1,4 @@
-use Rattle.std.proofs.Common.{sym, subst}
+use Rattle.std.proofs.Common.{subst}
 use Rattle.mailbox_model.specs.Mailbox.{IsMailbox}
 use Rattle.indexes.proofs.Viewed.{rules_seen}
 use Rattle.indexes.proofs.view.View.me.Goals as goal

@@ -1,4 +1,4 @@
-use Rattle.std.proofs.Common.{◌≡◌, sym, ap, ◌∙◌, subst}
+use Rattle.std.proofs.Common.{sym, ap, ◌∙◌, subst}
 use Rattle.indexes.specs.Views.{AllowsComing, seen_at, seen_of, seen_with}
 use Rattle.indexes.proofs.Viewed.{entry_seen}
 use Rattle.indexes.proofs.view.View.seen.Goals as goal

@@ -1,4 +1,4 @@
-use Rattle.std.proofs.Common.{◌≡◌, sym, ap, ◌∙◌, subst}
+use Rattle.std.proofs.Common.{sym, ap, ◌∙◌, subst}
 use Rattle.mailbox_model.specs.Present.{spot_of}
 use Rattle.indexes.specs.Views.{AllowsComing, seen_with}
 use Rattle.indexes.proofs.Viewed.{spot_seen}
