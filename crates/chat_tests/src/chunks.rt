@@ -13,7 +13,7 @@ fn jumping(number: u32, bound: u32) -> usize {
 }
 
 /// Whether both have the same values.
-pub(crate) fn same_values<T: PartialEq>(list: &ChunkedList<T>, values: &[T]) -> bool {
+fn same_values<T: PartialEq>(list: &ChunkedList<T>, values: &[T]) -> bool {
     if list.len() != values.len() {
         return false;
     }

@@ -12,13 +12,6 @@ module _ {X : Type 0} where
   joined-append [] yss = refl
   joined-append (xs ∷ xss) yss = ap (λ zs. xs ++ zs) (joined-append xss yss) ∙ sym (append_assoc xs (joined xss) (joined yss))
 
-  pub length-next : (xss : List (List X)) (c : ℕ) → c < length xss
-      → length (joined (take (suc c) xss)) ≡ length (joined (take c xss)) + length (get_or xss c [])
-  length-next [] c h = absurd (omega (arith, h))
-  length-next (xs ∷ xss) zero h = length-append xs [] ∙ omega arith
-  length-next (xs ∷ xss) (suc c) h =
-      omega (arith, length-append xs (joined (take (suc c) xss)), length-append xs (joined (take c xss)), length-next xss c (omega (arith, h)))
-
   -- the chunk at an index, whatever stands for one that is not there
   pub chunk_at : (xss : List (List X)) (c : ℕ) (ys : List X) → c < length xss → ys ≡ get_or xss c ys → ys ≡ get_or xss c []
   chunk_at xss c ys h is = is ∙ same xss c h
