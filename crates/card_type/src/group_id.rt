@@ -72,7 +72,7 @@ impl GroupId {
         self.bytes.bytes()
     }
 
-    /// A copy of the id. Takes memory; `Err` only when it runs out.
+    /// A copy of the id, which shares its bytes. Takes no memory; `Err` only where no more copies can be counted.
     pub fn copy(&self) -> Result<Self, Memory>
         ensures { IfOk result (λ copy. copy ≡ self.now) }
     {

@@ -31,7 +31,7 @@ impl Exact for ChatKey {
 }
 
 impl ChatKey {
-    /// A copy of the key. Takes memory; `Err` only when it runs out.
+    /// A copy of the key, which shares its bytes. Takes no memory; `Err` only where no more copies can be counted.
     pub fn copy(&self) -> Result<Self, Memory>
         ensures { IfOk result (λ copy. copy ≡ self.now) }
     {
@@ -69,7 +69,12 @@ impl PartialEq for ChatKey {
     ghost laws = { Prim.search (comparing, rules) };
 
     fn eq(&self, other: &Self) -> bool {
-        self.rank() == other.rank() && self.bytes() == other.bytes()
+        match (self, other) {
+            (ChatKey::Single(one), ChatKey::Single(two)) => one == two,
+            (ChatKey::Group(one), ChatKey::Group(two)) => one == two,
+            (ChatKey::Thread(one), ChatKey::Thread(two)) => one == two,
+            _ => self.rank() == other.rank(),
+        }
     }
 }
 
@@ -98,9 +103,11 @@ impl Ord for ChatKey {
     ghost matches_eq = { Prim.search (comparing, rules) };
 
     fn cmp(&self, other: &Self) -> Ordering {
-        match self.rank().cmp(&other.rank()) {
-            Ordering::Equal => self.bytes().cmp(other.bytes()),
-            different => different,
+        match (self, other) {
+            (ChatKey::Single(one), ChatKey::Single(two)) => one.cmp(two),
+            (ChatKey::Group(one), ChatKey::Group(two)) => one.cmp(two),
+            (ChatKey::Thread(one), ChatKey::Thread(two)) => one.cmp(two),
+            _ => self.rank().cmp(&other.rank()),
         }
     }
 }

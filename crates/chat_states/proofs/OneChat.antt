@@ -1,6 +1,6 @@
 -- The states of all chats, where the state of one is another.
-use Rattle.std.proofs.Common.{◌≡◌, refl, sym, ap, ◌∙◌, subst, Bool, true, false, ◌||◌, ◌&&◌, cond, Option, Some, None, List, [], ◌∷◌, ◌⊎◌, inl, inr}
-use Rattle.std.specs.Prelude.{if◌then◌else◌}
+use Rattle.std.proofs.Common.{◌≡◌, refl, sym, ap, ◌∙◌, subst, Bool, true, false, ◌||◌, ◌&&◌, cond, Option, Some, None, Result, Ok, Err, List, [], ◌∷◌, ◌⊎◌, inl, inr}
+use Rattle.std.specs.Prelude.{if◌then◌else◌, OnOk, OnErr}
 use Rattle.std.specs.FinMap as map_of
 use Rattle.std.specs.Str.{bytes_eq}
 use Rattle.std.specs.declared.cmp.Ordering.{Ordering}
@@ -61,16 +61,23 @@ module _ {X : Type 0} (before left : map_of.FinMap key_cmp X) (key : ChatKey) (t
       ap (λ m. map_of.get m other) taken ∙ map_of.get-remove keys_total before key other
       ∙ ap (λ b. cond b None (map_of.get before other)) (keys_tie other key ∙ key_turn other key ∙ h)
 
-  module _ (after : map_of.FinMap key_cmp X) (x : X) (put : after ≡ map_of.insert left key x) where
-    pub at_key : map_of.get after key ≡ Some x
-    at_key =
-        ap (λ m. map_of.get m key) put ∙ map_of.get-insert keys_total left key x key
-        ∙ ap (λ b. cond b (Some x) (map_of.get left key)) (keys_tie key key ∙ key_self key)
+module _ {X : Type 0} (left after : map_of.FinMap key_cmp X) (key : ChatKey) (x : X) (put : after ≡ map_of.insert left key x) where
+  pub at_key : map_of.get after key ≡ Some x
+  at_key =
+      ap (λ m. map_of.get m key) put ∙ map_of.get-insert keys_total left key x key
+      ∙ ap (λ b. cond b (Some x) (map_of.get left key)) (keys_tie key key ∙ key_self key)
 
-    pub at_other : (other : ChatKey) → key_eq key other ≡ false → map_of.get after other ≡ map_of.get before other
-    at_other other h =
-        ap (λ m. map_of.get m other) put ∙ map_of.get-insert keys_total left key x other
-        ∙ ap (λ b. cond b (Some x) (map_of.get left other)) (keys_tie other key ∙ key_turn other key ∙ h) ∙ left_other other h
+  pub at_other : (other : ChatKey) → key_eq key other ≡ false → map_of.get after other ≡ map_of.get left other
+  at_other other h =
+      ap (λ m. map_of.get m other) put ∙ map_of.get-insert keys_total left key x other
+      ∙ ap (λ b. cond b (Some x) (map_of.get left other)) (keys_tie other key ∙ key_turn other key ∙ h)
+
+-- a value that is put in place of another one, where there is one
+pub kept_other : {X Y E : Type 0} (r : Result Y E) (before after : map_of.FinMap key_cmp X) (key : ChatKey) (x : X)
+    → OnOk r (after ≡ map_of.insert before key x) → OnErr r (after ≡ before)
+    → (other : ChatKey) → key_eq key other ≡ false → map_of.get after other ≡ map_of.get before other
+kept_other (Ok y) before after key x ok err other h = at_other before after key x ok other h
+kept_other (Err e) before after key x ok err other h = ap (λ m. map_of.get m other) err
 
 -- ---- the states of all
 
@@ -97,11 +104,12 @@ module _ (me : Bytes) (u v : ChatKey → Bool) (old new : map_of.FinMap key_cmp 
       here : with_one id card (family key) ≡ with_card key id card family key
       here = λ j i. if sym (key_self key) j && bytes_eq id i then card else family key i
 
--- the state of the chat is taken out and another is put in, where one card of the chat is another
+-- the other chats keep theirs and another state is put in, where one card of the chat is another
 pub replaced : (me : Bytes) (u v : ChatKey → Bool) (old left new : map_of.FinMap key_cmp ChatState) (key : ChatKey) (t : ChatState)
-    → left ≡ map_of.remove old key → new ≡ map_of.insert left key t → ((other : ChatKey) → key_eq key other ≡ false → v other ≡ u other)
+    → ((other : ChatKey) → key_eq key other ≡ false → map_of.get left other ≡ map_of.get old other) → new ≡ map_of.insert left key t
+    → ((other : ChatKey) → key_eq key other ≡ false → v other ≡ u other)
     → (family : Family) (id : Bytes) (card : Option Shown) → (Has me key (u key) (family key) (map_of.get old key) → Has me key (v key) (with_one id card (family key)) (Some t))
     → AreStatesOf me u family old → AreStatesOf me v (with_card key id card family) new
-replaced me u v old left new key t taken put settled family id card step are =
-    one_chat me u v old new key (at_other old left key taken new t put) settled family id card are
-    (subst (Has me key (v key) (with_one id card (family key))) (sym (at_key old left key taken new t put)) (step (are key)))
+replaced me u v old left new key t kept put settled family id card step are =
+    one_chat me u v old new key (λ other h. at_other left new key t put other h ∙ kept other h) settled family id card are
+    (subst (Has me key (v key) (with_one id card (family key))) (sym (at_key left new key t put)) (step (are key)))

@@ -79,6 +79,14 @@ fn put_into(
     unsettled.note(key.copy()?)
 }
 
+/// Takes the state of a chat out for a while, and leaves an empty one in its place: `None` exactly where the chat has none.
+fn lift(alloc: Global, chats: &mut KeyMap<ChatState>, key: &ChatKey) -> Option<ChatState>
+    ensures before { result ≡ map_of.get chats.old key.now }
+    ensures others { (other : ChatKey) → key_eq key.now other ≡ false → map_of.get chats.new other ≡ map_of.get chats.old other }
+{
+    chats.replace(key, ChatState::empty(alloc)).ok()
+}
+
 /// Takes a card into the state of its chat, at its place in mail order, with the mark of its row, and `None` where it is not
 /// shown; a chat that has no state gets one. Where the state can't tell the roster with the card, the chat becomes
 /// unsettled. Takes memory, and time in proportion to the number of the chat's cards; `Err` only when memory runs out, and
@@ -112,7 +120,7 @@ pub fn put(
     ensures when { OnOk result ((state : ChatState) → map_of.get chats.old key.now ≡ Some state → IsStrictlySortedBy spot_cmp state.spots
         → has_key unsettled.new key.now ≡ (has_key unsettled.old key.now || not (takes_in state spot.now card.now))) }
 {
-    let mut state = match chats.remove(key) {
+    let mut state = match lift(alloc, chats, key) {
         Some(state) => state,
         None => ChatState::begin(alloc, key.copy()?, me)?,
     };
@@ -178,6 +186,7 @@ fn take_from(
 /// - `when`: this one becomes unsettled exactly where its state doesn't let the card go: `lets_go` in `specs/Changes.antt` of
 ///   `chat_view`.
 pub fn take(
+    alloc: Global,
     chats: &mut KeyMap<ChatState>,
     unsettled: &mut KeySet,
     key: &ChatKey,
@@ -192,7 +201,7 @@ pub fn take(
     ensures when { OnOk result ((state : ChatState) → map_of.get chats.old key.now ≡ Some state → IsStrictlySortedBy spot_cmp state.spots
         → has_key unsettled.new key.now ≡ (has_key unsettled.old key.now || not (lets_go state spot.now))) }
 {
-    let Some(mut state) = chats.remove(key) else {
+    let Some(mut state) = lift(alloc, chats, key) else {
         return Ok(());
     };
     take_from(&mut state, unsettled, key, spot)?;
@@ -207,6 +216,7 @@ pub fn take(
 ///   family with the other mark. The chats that were unsettled still are.
 /// - `others`: the other chats keep theirs.
 pub fn mark(
+    alloc: Global,
     chats: &mut KeyMap<ChatState>,
     key: &ChatKey,
     spot: &Spot,
@@ -218,7 +228,7 @@ pub fn mark(
         → AreStatesOf me unsettled (with_card key.now spot.now.id (Some (shown spot.now card mark)) family) chats.new) }
     ensures others { OnOk result ((other : ChatKey) → key_eq key.now other ≡ false → map_of.get chats.new other ≡ map_of.get chats.old other) }
 {
-    let Some(mut state) = chats.remove(key) else {
+    let Some(mut state) = lift(alloc, chats, key) else {
         return Ok(());
     };
     state.remark(spot, mark)?;

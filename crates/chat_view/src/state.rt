@@ -9,7 +9,8 @@ ghost use Rattle.chat_view.specs.Standing.{StandsFor, last_date, shown};
 use card_type::{Card, ChatKey, Spot};
 use chunked_list::ChunkedList;
 use group_roster::{Setters, add_at, begin};
-use kit::{Addr, Memory};
+use kit::{Addr, Memory, Text};
+use lists::Items;
 use mailbox_model::{Mark, Roster};
 use std::alloc::Global;
 
@@ -85,6 +86,26 @@ impl ChatState {
             last: None,
             fresh: 0,
         })
+    }
+
+    /// A state of no chat, which stands in for another one. Takes no memory.
+    pub fn empty(alloc: Global) -> Self
+        ensures { result.spots ≡ [] }
+    {
+        ChatState {
+            key: ChatKey::SelfChat,
+            spots: ChunkedList::new(alloc),
+            marks: ChunkedList::new(alloc),
+            roster: Roster {
+                begun: false,
+                members: Items::new(alloc),
+                name: Text::from(String::new(alloc)),
+                timer: 0,
+            },
+            setters: Setters::new(alloc),
+            last: None,
+            fresh: 0,
+        }
     }
 
     /// The date of the last row that is shown, in seconds since 1970-01-01 00:00:00 UTC; `None` where none is. Takes no

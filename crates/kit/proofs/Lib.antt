@@ -1,5 +1,6 @@
 pub mod ContentLemmas
 mod DigitLemmas
+pub mod FrontLaws
 pub mod LetterLemmas
 pub mod LineLemmas
 mod OptionCases

@@ -3,6 +3,7 @@ pub mod Addresses
 pub mod Charsets
 pub mod Comments
 pub mod Cuts
+pub mod Fronts
 pub mod Ids
 pub mod Letters
 pub mod Lines

@@ -86,9 +86,8 @@ impl Addr {
         if !is_addr(&items) {
             return Ok(None);
         }
-        Ok(Some(Addr {
-            bytes: Bytes::from(items),
-        }))
+        let bytes = Bytes::from_vec(alloc, items)?;
+        Ok(Some(Addr { bytes }))
     }
 
     /// The bytes of the address, in small letters. Takes no memory.
@@ -99,7 +98,7 @@ impl Addr {
         self.bytes.bytes()
     }
 
-    /// A copy of the address. Takes memory; `Err` only when it runs out.
+    /// A copy of the address, which shares its bytes. Takes no memory; `Err` only where no more copies can be counted.
     pub fn copy(&self) -> Result<Self, Memory>
         ensures { IfOk result (λ copy. copy ≡ self.now) }
     {

@@ -1,10 +1,11 @@
-//! Bytes that own their memory.
-ghost use Rattle.std.specs.Prelude.{◌≡◌, ℕ, List, ◌==◌, Some, IfOk};
+//! Bytes whose copies share them.
+ghost use Rattle.std.specs.Prelude.{◌≡◌, ℕ, List, ◌==◌, Some, IfOk, get_or};
 ghost use Rattle.std.specs.Cmp.Lexicographic.{pointwise, slice_cmp, texts_ties, texts_po, nat_list_eq_equiv, nat_list_cmp_total};
 ghost use Rattle.std.specs.Cmp.Rules.{hashing};
 ghost use Rattle.std.specs.Cmp.{partial_equiv_from_equiv};
 ghost use Rattle.std.specs.Hash as fed;
 ghost use Rattle.std.specs.Ordering.{nat_cmp};
+ghost use Rattle.kit.specs.Fronts.{IsFront};
 ghost use Rattle.std.proofs.Common.{rules, refl};
 
 use crate::memory::Memory;
@@ -12,26 +13,47 @@ use std::alloc::{AllocError, Global};
 use std::cmp::Ordering;
 use std::hash::{Hash, Hasher};
 use std::marker::Model;
+use std::rc::Rc;
 
-/// A list of bytes of any length, compared byte by byte. What is built over it, as `Id`, derives its traits.
+/// A list of bytes of any length, compared byte by byte. All copies share one place in memory, so to keep an id in many
+/// tables costs little more than to keep it in one. What is built over it, as `Id`, derives its traits.
 #[derive(Debug, Drop)]
 pub struct Bytes {
-    items: Vec<u8>,
+    // By it most comparisons are settled, without a look at the bytes.
+    front: u64,
+    items: Rc<Vec<u8>>,
 }
 
 impl Model for Bytes {
+    ghost use Rattle.std.specs.Prelude.{ℕ, List};
+    ghost use Rattle.kit.specs.Fronts.{IsFront};
+
     ghost Value = { List ℕ };
 
-    ghost view = { λ bytes. bytes.items.items };
+    ghost view = { λ bytes. bytes.items.value.items };
+
+    ghost invariant = { λ bytes. IsFront bytes.front bytes.items.value.items };
 }
 
-impl From<Vec<u8>> for Bytes {
-    ghost from_gives = { λ items bytes. bytes ≡ items.items };
-
-    /// Takes no memory.
-    fn from(items: Vec<u8>) -> Self {
-        Bytes { items }
+/// The byte at an index, and 0 where there is none.
+fn byte_at(bytes: &[u8], index: usize) -> u8
+    ensures { result ≡ get_or bytes.now index 0 }
+{
+    match bytes.get(index) {
+        Some(byte) => *byte,
+        None => 0,
     }
+}
+
+/// The first eight bytes as a number, the first of them the highest, with zeros where there are fewer.
+fn front_of(bytes: &[u8]) -> u64
+    ensures { IsFront result bytes.now }
+{
+    let mut front = 0;
+    for index in 0..8 {
+        front = front * 256 + u64::from(byte_at(bytes, index));
+    }
+    front
 }
 
 impl Bytes {
@@ -39,8 +61,16 @@ impl Bytes {
     pub fn from_slice(alloc: Global, bytes: &[u8]) -> Result<Self, Memory>
         ensures { IfOk result (λ copy. copy ≡ bytes.now) }
     {
-        let items = Vec::from_slice(alloc, bytes)?;
-        Ok(Bytes { items })
+        Bytes::from_vec(alloc, Vec::from_slice(alloc, bytes)?)
+    }
+
+    /// The bytes of a `Vec`, which are not copied. Takes memory; `Err` only when it runs out.
+    pub fn from_vec(alloc: Global, items: Vec<u8>) -> Result<Self, Memory>
+        ensures { IfOk result (λ made. made ≡ items.items) }
+    {
+        let front = front_of(&items);
+        let items = Rc::new(alloc, items)?;
+        Ok(Bytes { front, items })
     }
 
     /// The bytes themselves. Takes no memory.
@@ -50,7 +80,7 @@ impl Bytes {
         self.items.as_slice()
     }
 
-    /// A copy of the value. Takes memory; `Err` only when it runs out.
+    /// A copy, which shares the bytes. Takes no memory; `Err` only where no more copies can be counted.
     pub fn copy(&self) -> Result<Self, Memory>
         ensures { IfOk result (λ copy. copy ≡ self.now) }
     {
@@ -62,8 +92,11 @@ impl Clone for Bytes {
     ghost is_clone = { λ a b. b ≡ a };
 
     fn clone(&self) -> Result<Self, AllocError> {
-        let items = Vec::from_slice(*self.items.allocator(), self.items.as_slice())?;
-        Ok(Bytes { items })
+        let items = self.items.clone()?;
+        Ok(Bytes {
+            front: self.front,
+            items,
+        })
     }
 }
 
@@ -73,7 +106,7 @@ impl PartialEq for Bytes {
     ghost laws = { partial_equiv_from_equiv nat_list_eq_equiv };
 
     fn eq(&self, other: &Self) -> bool {
-        self.items == other.items
+        self.front == other.front && self.items == other.items
     }
 }
 
@@ -101,7 +134,10 @@ impl Ord for Bytes {
     ghost matches_eq = { texts_ties };
 
     fn cmp(&self, other: &Self) -> Ordering {
-        self.items.cmp(&other.items)
+        match self.front.cmp(&other.front) {
+            Ordering::Equal => self.items.cmp(&other.items),
+            different => different,
+        }
     }
 }
 

@@ -95,11 +95,12 @@ fn remark<L: Ledger>(
         place.spot,
         steps,
     )?;
-    mark(&mut indexes.chats, &place.chat, place.spot, shown)
+    mark(alloc, &mut indexes.chats, &place.chat, place.spot, shown)
 }
 
 /// Takes the card with an id out of the chat in which it was.
 fn take_from_chat(
+    alloc: Global,
     mailbox: &Mailbox,
     indexes: &mut Indexes,
     unsettled: &mut KeySet,
@@ -121,7 +122,13 @@ fn take_from_chat(
         return Ok(());
     };
     indexes.timers.drop_of(place.spot.uid);
-    take(&mut indexes.chats, unsettled, &place.chat, place.spot)
+    take(
+        alloc,
+        &mut indexes.chats,
+        unsettled,
+        &place.chat,
+        place.spot,
+    )
 }
 
 /// Puts the card with an id into the chat in which it is.
@@ -204,7 +211,7 @@ pub(crate) fn settle<L: Ledger>(
     if is_same(&before, &after) {
         return remark(alloc, view, indexes, &after, id, steps);
     }
-    take_from_chat(mailbox, indexes, &mut noted.unsettled, &before, id)?;
+    take_from_chat(alloc, mailbox, indexes, &mut noted.unsettled, &before, id)?;
     put_into_chat(
         alloc,
         view,

@@ -1,6 +1,6 @@
 -- What a binary search finds among values in order, and what an insert or a removal there does.
 use Rattle.std.proofs.Common.{◌≡◌, ◌≢◌, refl, sym, ap, ◌∙◌, subst, ℕ, Bool, zero, suc, ◌+◌, ◌<◌, ◌≤◌, true, false, not, ◌||◌, ◌⊎◌, inl, inr, List, [], ◌∷◌, length, get_or, Result, Ok, Err, is_ok, arith}
-use Rattle.std.specs.Prelude.{if◌then◌else◌, filter}
+use Rattle.std.specs.Prelude.{if◌then◌else◌, filter, slice_set}
 use Rattle.std.specs.List.{insert, remove, list_any, AllByRecursion, HoldsAt}
 use Rattle.std.specs.List.Sorted.{IsStrictlySortedBy, IsNonDecreasingBy, IsPartitionPoint, IsBinarySearchResult, IsSearchInRange}
 use Rattle.std.specs.declared.cmp.Ordering.{Ordering}
@@ -90,6 +90,11 @@ module _ {X : Type 0} (cmp : X → X → Ordering) (total : IsTotalOrder cmp) wh
   none_alike v [] a = tt
   none_alike v (x ∷ xs) a = (ap is_eq a.0, none_alike v xs a.1)
 
+  -- what is above a value is above one that ties with it
+  alike : (v x : X) (ys : List X) → cmp x v ≡ Equal → AllByRecursion (λ y. cmp x y ≡ Less) ys → AllByRecursion (λ y. cmp v y ≡ Less) ys
+  alike v x [] e a = tt
+  alike v x (y ∷ ys) e a = (sym (total.congr x v y e) ∙ a.0, alike v x ys e a.1)
+
   -- the value that is found is the only one that ties
   pub removed : (v : X) (xs : List X) (i : ℕ) → i < length xs → HoldsAt (λ y. cmp y v ≡ Equal) xs i → IsStrictlySortedBy cmp xs
       → remove xs i ≡ filter (λ y. not (eq_by_cmp cmp v y)) xs
@@ -98,12 +103,8 @@ module _ {X : Type 0} (cmp : X → X → Ordering) (total : IsTotalOrder cmp) wh
   removed v (x ∷ xs) zero h at sorted =
       let here : cmp x v ≡ Equal = at x in
       let ties : eq_by_cmp cmp v x ≡ true = ap is_eq (turned x v Equal here) in
-      let others = none_alike v xs (alike xs here sorted.0) in
+      let others = none_alike v xs (alike v x xs here sorted.0) in
       sym (rw ties (none_filtered (eq_by_cmp cmp v) xs others))
-    where
-      alike : (ys : List X) → cmp x v ≡ Equal → AllByRecursion (λ y. cmp x y ≡ Less) ys → AllByRecursion (λ y. cmp v y ≡ Less) ys
-      alike [] e a = tt
-      alike (y ∷ ys) e a = (sym (total.congr x v y e) ∙ a.0, alike ys e a.1)
   removed v (x ∷ xs) (suc i) h at sorted =
       let found : X = get_or xs i x in
       let less : cmp x found ≡ Less = Less-from_sorted cmp (x ∷ xs) 0 (suc i) x sorted (omega arith) (omega (arith, h)) in
@@ -132,3 +133,33 @@ module _ {X : Type 0} (cmp : X → X → Ordering) (total : IsTotalOrder cmp) wh
       → IsBinarySearchResult (λ y. cmp y v) xs r → is_ok r ≡ list_any (eq_by_cmp cmp v) xs
   searched v xs (Ok k) sorted range found = sym (absent v xs k range found)
   searched v xs (Err k) sorted range found = sym (any_none (eq_by_cmp cmp v) xs (none_found v xs k range (found (comparisons_rise v xs sorted))))
+
+  -- ---- a value put in
+
+  -- what is left ties with none
+  pub none_left : (v : X) (xs : List X) → list_any (eq_by_cmp cmp v) (filter (λ y. not (eq_by_cmp cmp v y)) xs) ≡ false
+  none_left v [] = refl
+  none_left v (x ∷ xs) = elim (eq_by_cmp cmp v x) as (λ b. eq_by_cmp cmp v x ≡ b → list_any (eq_by_cmp cmp v) (if not b then x ∷ filter (λ y. not (eq_by_cmp cmp v y)) xs else filter (λ y. not (eq_by_cmp cmp v y)) xs) ≡ false) [
+    | true ↦ λ e. none_left v xs
+    | false ↦ λ e. rw e (none_left v xs)
+  ] refl
+
+  -- in place of the one that ties with it
+  pub replaced : (v : X) (xs : List X) (i : ℕ) → i < length xs → HoldsAt (λ y. cmp y v ≡ Equal) xs i → IsStrictlySortedBy cmp xs
+      → slice_set xs i v ≡ insert_by cmp v (filter (λ y. not (eq_by_cmp cmp v y)) xs)
+  unfolding IsStrictlySortedBy
+  replaced v [] i h at sorted = absurd (omega (arith, h))
+  replaced v (x ∷ xs) zero h at sorted =
+      let here : cmp x v ≡ Equal = at x in
+      let ties : eq_by_cmp cmp v x ≡ true = ap is_eq (turned x v Equal here) in
+      let above = alike v x xs here sorted.0 in
+      sym (rw (ties, none_filtered (eq_by_cmp cmp v) xs (none_alike v xs above)) (first v xs above))
+    where
+      first : (v : X) (ys : List X) → AllByRecursion (λ y. cmp v y ≡ Less) ys → insert_by cmp v ys ≡ v ∷ ys
+      first v [] a = refl
+      first v (y ∷ ys) a = rw (ap is_lt a.0, insert_by) refl
+  replaced v (x ∷ xs) (suc i) h at sorted =
+      let found : X = get_or xs i x in
+      let less : cmp x found ≡ Less = Less-from_sorted cmp (x ∷ xs) 0 (suc i) x sorted (omega arith) (omega (arith, h)) in
+      let above : cmp v x ≡ Greater = sym (total.congr found v x (at x)) ∙ turned x found Less less in
+      rw (ap is_eq above, ap is_lt above, insert_by) (ap (λ ys. x ∷ ys) (replaced v xs i (omega (arith, h)) (λ d. at d) sorted.1))

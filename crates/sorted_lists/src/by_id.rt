@@ -81,6 +81,21 @@ impl<T: Ord + Drop> SortedById<T> {
         }
     }
 
+    /// Puts a value of an id in its place, instead of the one that ties with it, where there is one. Takes memory; `Err` only
+    /// when it runs out.
+    pub fn put(&mut self, id: &Id, value: T) -> Result<(), Memory>
+        ensures at { OnOk result (values_at self.new id.now ≡ insert_by T.cmp value (filter (λ other. not (eq_by_cmp T.cmp value other)) (values_at self.old id.now))) }
+        ensures others { OnOk result ((other : List ℕ) → bytes_eq id.now other ≡ false → values_at self.new other ≡ values_at self.old other) }
+    {
+        if let Some(list) = self.lists.get_mut(id) {
+            return list.put(value);
+        }
+        let mut list = SortedList::new(self.alloc);
+        list.put(value)?;
+        self.lists.insert(id.copy()?, list)?;
+        Ok(())
+    }
+
     /// Takes the value of an id out that ties with this one, where there is one. Takes no memory.
     pub fn remove(&mut self, id: &Id, value: &T)
         ensures at { values_at self.new id.now ≡ filter (λ other. not (eq_by_cmp T.cmp value.now other)) (values_at self.old id.now) }

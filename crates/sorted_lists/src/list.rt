@@ -1,5 +1,5 @@
 //! One list of values in order.
-ghost use Rattle.std.specs.Prelude.{◌≡◌, ◌<◌, ◌≤◌, [], false, not, length, filter, IfSome, IfNone, OnOk};
+ghost use Rattle.std.specs.Prelude.{◌≡◌, ◌<◌, ◌≤◌, [], false, not, length, filter, IfSome, IfNone, OnOk, OnErr};
 ghost use Rattle.std.specs.List.{list_any, insert, remove};
 ghost use Rattle.std.specs.List.Sorted.{IsStrictlySortedBy};
 ghost use Rattle.std.specs.Ordering.{eq_by_cmp};
@@ -77,6 +77,19 @@ impl<T: Ord + Drop> SortedList<T> {
         let inserted: Result<_, _> = self.values.insert(index, value);
         inserted.unwrap();
         index
+    }
+
+    /// Puts a value in its place, instead of the one that ties with it, where there is one. Takes memory; `Err` only when it
+    /// runs out, and then the values are as before.
+    pub fn put(&mut self, value: T) -> Result<(), Memory>
+        ensures ok { OnOk result (self.new.values ≡ insert_by T.cmp value (filter (λ other. not (eq_by_cmp T.cmp value other)) self.old.values)) }
+        ensures err { OnErr result (self.new.values ≡ self.old.values) }
+    {
+        match self.values.binary_search(&value) {
+            Ok(index) => self.values[index] = value,
+            Err(index) => self.values.insert(index, value)?,
+        }
+        Ok(())
     }
 
     /// Takes the value out that ties with this one, and returns the index that it had: `None` exactly where there is none.

@@ -110,12 +110,3 @@ module _ (s : Spot) (F G H : Bytes → List Spot) (ids : List Bytes) (i : ℕ) (
       step F (λ q. but s (F q)) G H (take i ids) x so_far
       (here ∙ ap (but s) (so_far x) ∙ but_but s (F x) (is_among (take i ids) x)) others id
       ∙ ap (λ us. if is_among us id then but s (F id) else F id) (sym more)
-
--- none ties once it is taken out
-pub none_left : (s : Spot) (spots : List Spot) → list_any (ties s) (but s spots) ≡ false
-none_left s [] = refl
-none_left s (y ∷ spots) =
-    elim (ties s y) as (λ b. ties s y ≡ b → list_any (ties s) (cond (not b) (y ∷ but s spots) (but s spots)) ≡ false) [
-      | true ↦ λ e. none_left s spots
-      | false ↦ λ e. rw e (none_left s spots)
-    ] refl

@@ -27,7 +27,7 @@ use Rattle.mailbox_model.specs.declared.links.Cites.{Cites}
 use Rattle.mailbox_model.specs.declared.links.Moved.{Moved}
 use Rattle.mailbox_model.specs.Lists.{Bytes}
 use Rattle.mailbox_model.specs.Chats.{cites_cmp, chat_from, is_id_among, DistinctIds, parent_among, chat_among, moved, moves}
-use Rattle.mailbox_model.proofs.ListLaws.{key_same}
+use Rattle.mailbox_model.proofs.ListLaws.{key_same, key_self}
 use Rattle.thread_links.specs.declared.kept.Kept.{Kept}
 use Rattle.thread_links.specs.Linked.{citing}
 use Rattle.thread_links.specs.Kept.{Entries, kept_at, cites_at, chat_in, cites_in, without_chats, parent_in}
@@ -81,6 +81,11 @@ module _ (spots : List Spot) (i : ℕ) (x from s : Spot) (in_range : i < length 
 
 pub told_move : (id : Bytes) (before after : Option ChatKey) → option_eq key_eq before after ≡ false → Some (record { id = id; before = before; after = after }) ≡ moved id before after
 told_move id before after e = sym (ap (λ b. if b then None else Some (record { id = id; before = before; after = after })) e)
+
+-- one that stays in its chat is not told
+pub told_none : (id : Bytes) (chat : Option ChatKey) → None ≡ moved id chat chat
+told_none id None = refl
+told_none id (Some k) = sym (ap (λ b. if b then None else Some (record { id = id; before = Some k; after = Some k })) (key_self k))
 
 pub keys_same : (a b : Option ChatKey) → option_eq key_eq a b ≡ true → a ≡ b
 keys_same None None e = refl

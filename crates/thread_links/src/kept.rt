@@ -85,9 +85,7 @@ fn cite(cited: &mut SortedById<Spot>, ids: &[Id], spot: &Spot) -> Result<(), Mem
 {
     for id in ids {
         // An id may come twice among them.
-        cited.remove(id, spot);
-        cited.reserve(id)?;
-        cited.insert(id, spot.copy()?);
+        cited.put(id, spot.copy()?)?;
     }
     Ok(())
 }

@@ -11,8 +11,8 @@ use Rattle.chat_states.proofs.chats.put.Goals as goal
 pub returns-clause-others : goal.returns-clause-others
 returns-clause-others c =
     let key = c.args.key.now in
-    let put = c.in_ok-_none.ensures.ok ∙ ap (λ k. map_of.insert c.remove.new.self k c.put_into.new.state) c.in_ok-copy.ensures in
-    at_other c.args.chats.now c.remove.new.self key c.remove.ensures.after c.insert.new.self c.put_into.new.state put
+    let put = c.in_ok-_none.ensures.ok ∙ ap (λ k. map_of.insert c.lift.new.chats k c.put_into.new.state) c.in_ok-copy.ensures in
+    λ other h. at_other c.lift.new.chats c.insert.new.self key c.put_into.new.state put other h ∙ c.lift.ensures.others other h
 
 pub returns-clause-states : goal.returns-clause-states
 returns-clause-states c family small none are =
@@ -20,22 +20,22 @@ returns-clause-states c family small none are =
     let me = c.args.me.now in
     let spot = c.args.spot.now in
     let by_id = family key in
-    let state = c.match-remove.state in
+    let state = c.match-lift.state in
     let old = has_key c.args.unsettled.now in
     let new = has_key c.put_into.new.unsettled in
-    let put = c.in_ok-_none.ensures.ok ∙ ap (λ k. map_of.insert c.remove.new.self k c.put_into.new.state) c.in_ok-copy.ensures in
-    replaced me old new c.args.chats.now c.remove.new.self c.insert.new.self key c.put_into.new.state c.remove.ensures.after put c.in_ok-put_into.ensures.notes.others
+    let put = c.in_ok-_none.ensures.ok ∙ ap (λ k. map_of.insert c.lift.new.chats k c.put_into.new.state) c.in_ok-copy.ensures in
+    replaced me old new c.args.chats.now c.lift.new.chats c.insert.new.self key c.put_into.new.state c.lift.ensures.others put c.in_ok-put_into.ensures.notes.others
     family spot.id (Some (shown spot c.args.card.now c.args.mark))
     (λ has.
-    let follows : FollowsChat me key (old key) by_id state = elim c.match-remove.branch as (λ _. FollowsChat me key (old key) by_id state) [
+    let follows : FollowsChat me key (old key) by_id state = elim c.match-lift.branch as (λ _. FollowsChat me key (old key) by_id state) [
       | in-Some w ↦
           subst (FollowsChat me key (old key) by_id) (sym w.state-is)
-          (subst (Has me key (old key) by_id) (sym c.remove.ensures.before ∙ w.in-Some.is) has).0
+          (subst (Has me key (old key) by_id) (sym c.lift.ensures.before ∙ w.in-Some.is) has).0
       | in-None+in_ok-copy-in-None+in_ok-state-in-None w ↦
           begun me key (old key) by_id state
           (ap (λ (s : ChatState). s.key) w.state-is ∙ w.in_ok-state-in-None.ensures.key ∙ w.in_ok-copy-in-None.ensures)
           (subst (StandsFor me []) (sym w.state-is) w.in_ok-state-in-None.ensures.stands)
-          (subst (Has me key (old key) by_id) (sym c.remove.ensures.before ∙ w.in-None.is) has)
+          (subst (Has me key (old key) by_id) (sym c.lift.ensures.before ∙ w.in-None.is) has)
     ] in
     put_has me key (old key) (new key) by_id small state c.put_into.new.state follows c.in_ok-put_into.ensures.key spot c.args.card.now c.args.mark none
     (λ before after few order was. c.in_ok-put_into.ensures.follows before after few order was))
@@ -43,11 +43,11 @@ returns-clause-states c family small none are =
 
 pub returns-clause-begun : goal.returns-clause-begun
 returns-clause-begun c gone =
-    let state = c.match-remove.state in
+    let state = c.match-lift.state in
     let old = has_key c.args.unsettled.now c.args.key.now in
     let new = has_key c.put_into.new.unsettled c.args.key.now in
-    elim c.match-remove.branch as (λ _. new ≡ old) [
-      | in-Some w ↦ let bad : None ≡ Some w.in-Some.state = sym gone ∙ sym c.remove.ensures.before ∙ w.in-Some.is in cc
+    elim c.match-lift.branch as (λ _. new ≡ old) [
+      | in-Some w ↦ let bad : None ≡ Some w.in-Some.state = sym gone ∙ sym c.lift.ensures.before ∙ w.in-Some.is in cc
       | in-None+in_ok-copy-in-None+in_ok-state-in-None w ↦
           let none = ap (λ (s : ChatState). s.spots) (w.state-is ∙ w.in_ok-state-in-None.ensures.stands) in
           c.in_ok-put_into.ensures.when (no_order state none) ∙ takes_first state c.args.spot.now c.args.card.now old none

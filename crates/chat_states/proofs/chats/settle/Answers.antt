@@ -20,7 +20,7 @@ pub returns-in_ok-_none-clause-others : goal.returns-in_ok-_none-clause-others
 returns-in_ok-_none-clause-others c =
     let t : ChatState = record c.in-Some.state { roster = c.args.roster; setters = c.args.setters } in
     let put = c.in_ok-_none.ensures.ok ∙ ap (λ k. map_of.insert c.remove.new.self k t) c.in_ok-copy.ensures in
-    at_other c.args.chats.now c.remove.new.self c.args.key.now c.remove.ensures.after c.insert.new.self t put
+    λ other h. at_other c.remove.new.self c.insert.new.self c.args.key.now t put other h ∙ left_other c.args.chats.now c.remove.new.self c.args.key.now c.remove.ensures.after other h
 
 -- the other chats are as settled as they were
 settled : (unsettled : ChatKey → Bool) (key other : ChatKey) → key_eq key other ≡ false → unsettled other ≡ (key_eq other key || unsettled other)
@@ -56,6 +56,6 @@ returns-in_ok-_none-clause-states c me unsettled family cards these rests are =
     let put = c.in_ok-_none.ensures.ok ∙ ap (λ k. map_of.insert c.remove.new.self k t) c.in_ok-copy.ensures in
     let some = lt-ltb 0 (length state.spots) (omega (arith, c.len.ensures, c.if-len-gt0.true)) in
     one_state me (λ other. key_eq other key || unsettled other) unsettled c.args.chats.now c.insert.new.self key
-    (at_other c.args.chats.now c.remove.new.self key c.remove.ensures.after c.insert.new.self t put) (settled unsettled key) family family (λ other h. refl) are
-    (subst (Has me key (unsettled key) (family key)) (sym (at_key c.args.chats.now c.remove.new.self key c.remove.ensures.after c.insert.new.self t put))
+    (λ other h. at_other c.remove.new.self c.insert.new.self key t put other h ∙ left_other c.args.chats.now c.remove.new.self key c.remove.ensures.after other h) (settled unsettled key) family family (λ other h. refl) are
+    (subst (Has me key (unsettled key) (family key)) (sym (at_key c.remove.new.self c.insert.new.self key t put))
     (settled_has me key was_open (family key) cards these state old (unsettled key) c.args.roster c.args.setters rests some))

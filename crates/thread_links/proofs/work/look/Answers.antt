@@ -6,7 +6,7 @@ use Rattle.mailbox_model.specs.Chats.{chat_from}
 use Rattle.thread_links.specs.declared.kept.Kept.{Kept}
 use Rattle.thread_links.specs.Kept.{chat_in, parent_in}
 use Rattle.thread_links.proofs.KeptLaws.{looked}
-use Rattle.thread_links.proofs.Turns.{keys_same, told_move, card_is, no_card}
+use Rattle.thread_links.proofs.Turns.{keys_same, told_move, told_none, card_is, no_card}
 use Rattle.thread_links.proofs.work.look.Goals as goal
 
 pub returns-in_default-clause-chat : goal.returns-in_default-clause-chat
@@ -22,6 +22,9 @@ returns-then-is_in-clause-chat c t h =
     ap (option_and_then (λ (k : Kept). k.chat)) found
     ∙ keys_same c.in-Some.card.now.chat (Some c.in_ok-chat.chat) (sym c.is_in.ensures ∙ c.if-is_in.true)
     ∙ ap Some (c.in_ok-chat.ensures ∙ ap (λ (x : Cites). chat_from x (option_and_then (chat_in es) (parent_in es x))) same)
+
+pub returns-then-is_in-clause-told : goal.returns-then-is_in-clause-told
+returns-then-is_in-clause-told c = told_none c.args.spot.now.id (chat_in c.args.kept.now.entries c.args.spot.now.id)
 
 pub set_chat-before-requires : goal.set_chat-before-requires
 set_chat-before-requires c =
