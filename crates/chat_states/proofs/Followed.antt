@@ -177,3 +177,9 @@ weaker me key u v by_id (Some s) more has =
     by : (a b : Bool) → (a ≡ true → b ≡ true) → b ≡ false → a ≡ false
     by false b f e = refl
     by true b f e = absurd (false≢true (sym e ∙ f refl))
+
+-- a chat that a state was not changed for is unsettled: it was so before, or its state can't tell
+pub unsettled_now : (before tells after : Bool) → false ≡ (not before && tells) → after ≡ true → after ≡ (before || not tells)
+unsettled_now true tells after left is = is
+unsettled_now false true after left is = cc
+unsettled_now false false after left is = is

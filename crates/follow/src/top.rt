@@ -21,6 +21,7 @@ use answers::{Question, print_answer};
 use kit::{Addr, Memory, Steps, Text};
 use outside::{Clock, NoSource, Shelf, Sink, Source};
 use std::alloc::Global;
+use std::mem;
 use std::sync::ledger::Ledger;
 use trial::print_trial;
 
@@ -61,7 +62,13 @@ fn reply_to<M: Source, S: Source, H: Shelf, C: Clock, K: Sink, L: Ledger>(
     ensures clock { AsksClock C.asked (not given && is_none at) clock.old clock.new (IsErrOf result Refusal.Memory) }
 {
     match follow_files(alloc, &me, at, given, mbox, steps_file, shelf, clock, steps) {
-        Ok(follower) => Ok(print_answer(alloc, follower.engine(), question, out, steps)?),
+        Ok(follower) => {
+            let printed = print_answer(alloc, follower.engine(), question, out, steps);
+            // A run ends with its answer, and all its memory goes back with the process: to give it back value by value takes
+            // a tenth of the whole time of a large mailbox.
+            mem::forget(follower);
+            Ok(printed?)
+        }
         Err(fault) => Err(Refusal::of_fault(fault, me)),
     }
 }

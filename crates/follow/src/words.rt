@@ -96,12 +96,12 @@ fn moment_if_given(word: Option<&[u8]>) -> Option<Option<u64>>
 }
 
 /// The address of the person, if there is one and no other.
-fn sole(mut persons: Vec<Person>) -> Option<Addr>
-    ensures { result ≡ sole persons.items }
+fn sole(persons: &[Person]) -> Result<Option<Addr>, Memory>
+    ensures { IfOk result (λ found. found ≡ sole persons.now) }
 {
-    match (persons.pop(), persons.is_empty()) {
-        (Some(person), true) => Some(person.addr),
-        _ => None,
+    match persons {
+        [person] => Ok(Some(person.addr.copy()?)),
+        _ => Ok(None),
     }
 }
 
@@ -109,7 +109,7 @@ fn sole(mut persons: Vec<Person>) -> Option<Addr>
 fn own_address(alloc: Global, word: &[u8]) -> Result<Option<Addr>, Memory>
     ensures { IfOk result (λ read. read ≡ own_address word.now) }
 {
-    Ok(sole(people(alloc, word)?))
+    sole(&people(alloc, word)?)
 }
 
 impl<'a> Words<'a> {

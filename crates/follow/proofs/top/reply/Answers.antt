@@ -1,9 +1,10 @@
 use Rattle.std.proofs.Common.{rules, ◌≡◌, refl, sym, ◌∙◌, Some, arith}
 use Rattle.std.proofs.lemmas.Result.{err_from_is_err_and}
+use Rattle.trial.specs.Summaries.{trial_text}
 use Rattle.follow.specs.Words.{request}
 use Rattle.follow.proofs.Clocks.{ended_before}
 use Rattle.follow.proofs.Refused.{last_of_memory, last_of_usage, untouched_leaves}
-use Rattle.follow.proofs.Replied.{free_of_memory}
+use Rattle.follow.proofs.Replied.{free_of_memory, trial_refused, trial_whole}
 use Rattle.follow.proofs.top.reply.Goals as goal
 
 -- ---- memory ran out for the words
@@ -70,3 +71,17 @@ pub returns-in-Ask-clause-cost : goal.returns-in-Ask-clause-cost
 returns-in-Ask-clause-cost g c = λ found told.
     let read : request c.args.words.now ≡ Some c.in-Some.request = sym c.in_ok-request.ensures.value ∙ c.in-Some.is in
     rw (read, c.in-Ask.is) (c.reply_to.ensures.cost found ((rw (read, c.in-Ask.is) at told) refl))
+
+-- ---- a trial is made
+
+pub returns-in_err-print_trial-in-Trial-clause-puts : goal.returns-in_err-print_trial-in-Trial-clause-puts
+returns-in_err-print_trial-in-Trial-clause-puts g c = λ found told.
+    let p = err_from_is_err_and c.from_residual-in_err-print_trial-in-Trial.result c.from_residual-in_err-print_trial-in-Trial.ensures.1 in
+    let read : request c.args.words.now ≡ Some c.in-Some.request = sym c.in_ok-request.ensures.value ∙ c.in-Some.is in
+    rw (p.1, p.2, read, c.in-Trial.is)
+    (trial_refused (trial_text c.in-Some.request.me c.in-Trial.number) _ _ c.in_err-print_trial-in-Trial.field-0.0 c.in_err-print_trial-in-Trial.ensures.puts)
+
+pub returns-in_ok-print_trial-in-Trial-clause-puts : goal.returns-in_ok-print_trial-in-Trial-clause-puts
+returns-in_ok-print_trial-in-Trial-clause-puts g c = λ found told.
+    let read : request c.args.words.now ≡ Some c.in-Some.request = sym c.in_ok-request.ensures.value ∙ c.in-Some.is in
+    rw (read, c.in-Trial.is) (trial_whole (trial_text c.in-Some.request.me c.in-Trial.number) _ _ tt tt c.in_ok-print_trial-in-Trial.ensures.puts)
