@@ -1,4 +1,5 @@
 //! Values that come and go anywhere in a list of chunks.
+use crate::asserts::{assert_row, assert_same};
 use chunked_list::ChunkedList;
 use lists::Items;
 use std::alloc::Global;
@@ -57,7 +58,7 @@ fn values_come_and_go_anywhere(rt: HostRuntime) -> Result<(), Fail> {
     assert!(rt; list.chunks().len() > 3);
     change_most(&mut list, &mut values);
     assert!(rt; same_values(&list, values.as_slice()));
-    assert_eq!(rt; list.len(), 100);
+    assert_same(&rt, list.len(), 100);
     list.remove(100);
     list.set(100, 0);
     assert!(rt; same_values(&list, values.as_slice()));
@@ -85,8 +86,8 @@ fn a_search_finds_a_value_or_its_place(rt: HostRuntime) -> Result<(), Fail> {
         (1_998, Ok(999)),
         (1_999, Err(1_000)),
     ] {
-        assert_eq!(rt; list.binary_search(&value), found, "{value}");
+        assert_row(&rt, value, list.binary_search(&value), found);
     }
-    assert_eq!(rt; list.get(1_000), None);
+    assert_same(&rt, list.get(1_000), None);
     Ok(())
 }

@@ -1,4 +1,5 @@
 //! The name of a chat, and its row in the list.
+use crate::asserts::{assert_row, assert_same};
 use crate::rows::{row, state_of};
 use card_type::ChatKey;
 use chat_view::{Mark, Row, chat_row, page_name};
@@ -43,11 +44,11 @@ fn name_of(
 #[test]
 fn each_chat_has_a_name(rt: HostRuntime) -> Result<(), Fail> {
     let alloc = rt.alloc();
-    for (chat, name, given, expected) in NAMES {
+    for &(chat, name, given, expected) in &NAMES {
         let key = key(alloc, chat)?;
         let contact = contact(alloc, name)?;
         let shown = name_of(alloc, &key, contact.as_ref(), given)?;
-        assert_eq!(rt; shown.as_str(), expected, "{chat}");
+        assert_row(&rt, chat, shown.as_str(), expected);
     }
     Ok(())
 }
@@ -64,17 +65,17 @@ fn listed(alloc: Global, last: Option<&Row>) -> Result<(Text, u32, Option<u64>, 
 fn a_chat_in_the_list(rt: HostRuntime) -> Result<(), Fail> {
     let last = row(rt.alloc(), true, "", "Dinner tonight?")?;
     let (name, fresh, time, body) = listed(rt.alloc(), Some(&last))?;
-    assert_eq!(rt; name.as_str(), "Bob");
-    assert_eq!(rt; (fresh, time), (1, Some(1_714_557_600)));
-    assert_eq!(rt; body.as_str(), "Dinner tonight?");
+    assert_same(&rt, name.as_str(), "Bob");
+    assert_same(&rt, (fresh, time), (1, Some(1_714_557_600)));
+    assert_same(&rt, body.as_str(), "Dinner tonight?");
     Ok(())
 }
 
 #[test]
 fn a_chat_without_a_row_in_the_list(rt: HostRuntime) -> Result<(), Fail> {
     let (name, _, time, body) = listed(rt.alloc(), None)?;
-    assert_eq!(rt; name.as_str(), "Bob");
-    assert_eq!(rt; time, None);
-    assert_eq!(rt; body.as_str(), "");
+    assert_same(&rt, name.as_str(), "Bob");
+    assert_same(&rt, time, None);
+    assert_same(&rt, body.as_str(), "");
     Ok(())
 }

@@ -2,6 +2,7 @@
 ghost use Rattle.std.specs.Prelude.{All, IfOk, IfSome};
 ghost use Rattle.chat_print.specs.Moments.{HasMoment, IsMoment, ReaderHasMoment, RowHasMoments};
 
+use crate::asserts::assert_same;
 use crate::split_sink::SplitSink;
 use card_type::{Attachment, Payload, Update};
 use chat_print::{print_chat, print_contacts, print_list, print_updates};
@@ -363,7 +364,7 @@ fn fault_rows(alloc: Global, table: &[(u32, Fault)]) -> Result<Items<FaultRow>, 
 #[test]
 fn lists_are_printed(rt: HostRuntime) -> Result<(), Fail> {
     let alloc = rt.alloc();
-    for (table, faults, expected) in LISTS {
+    for &(table, faults, expected) in &LISTS {
         let page = ListPage {
             rows: list_rows(alloc, table)?,
             faults: fault_rows(alloc, faults)?,
@@ -371,7 +372,7 @@ fn lists_are_printed(rt: HostRuntime) -> Result<(), Fail> {
         // A second put would fail.
         let mut out = sink(alloc, 2)?;
         print_list(alloc, &page, &mut out)?;
-        assert_eq!(rt; str::from_utf8(out.bytes())?, expected);
+        assert_same(&rt, str::from_utf8(out.bytes())?, expected);
     }
     Ok(())
 }
@@ -535,9 +536,9 @@ fn printed_chat(alloc: Global, chat: &Chat, rows: Items<Row>) -> Result<MemorySi
 #[test]
 fn chats_are_printed(rt: HostRuntime) -> Result<(), Fail> {
     let alloc = rt.alloc();
-    for (chat, table, expected) in CHATS {
+    for &(chat, table, expected) in &CHATS {
         let out = printed_chat(alloc, &chat, full_rows(alloc, table)?)?;
-        assert_eq!(rt; str::from_utf8(out.bytes())?, expected);
+        assert_same(&rt, str::from_utf8(out.bytes())?, expected);
     }
     Ok(())
 }
@@ -577,7 +578,7 @@ const CHANGED: [(bool, bool, &str); 3] = [
 #[test]
 fn rows_that_are_cut_or_edited(rt: HostRuntime) -> Result<(), Fail> {
     let alloc = rt.alloc();
-    for (cut, edited, expected) in CHANGED {
+    for &(cut, edited, expected) in &CHANGED {
         let rows = changed_row(alloc, cut, edited)?;
         let out = printed_chat(alloc, &("self", "self", &[], 0), rows)?;
         assert!(rt; out.bytes().ends_with(expected.as_bytes()), "{expected}");
@@ -604,7 +605,7 @@ fn contacts_are_printed(rt: HostRuntime) -> Result<(), Fail> {
     let rows = two_contacts(alloc)?;
     let mut out = sink(alloc, 2)?;
     print_contacts(alloc, &rows, &mut out)?;
-    assert_eq!(rt; str::from_utf8(out.bytes())?, PRINTED_CONTACTS);
+    assert_same(&rt, str::from_utf8(out.bytes())?, PRINTED_CONTACTS);
     Ok(())
 }
 
@@ -617,7 +618,7 @@ fn updates_are_printed(rt: HostRuntime) -> Result<(), Fail> {
     }
     let mut out = sink(alloc, 2)?;
     print_updates(alloc, &rows, 5, &mut out)?;
-    assert_eq!(rt; str::from_utf8(out.bytes())?, PRINTED_UPDATES);
+    assert_same(&rt, str::from_utf8(out.bytes())?, PRINTED_UPDATES);
     Ok(())
 }
 
@@ -641,18 +642,19 @@ fn put_to_a_fault(alloc: Global, fails: u64) -> Result<(Result<(), PrintFault>, 
 #[test]
 fn a_sink_that_fails_at_its_first_byte_is_a_write_fault(rt: HostRuntime) -> Result<(), Fail> {
     let (answer, put) = put_to_a_fault(rt.alloc(), 1)?;
-    assert_eq!(rt; answer, Err(PrintFault::Write));
-    assert_eq!(rt; put.as_str(), "");
+    assert_same(&rt, answer, Err(PrintFault::Write));
+    assert_same(&rt, put.as_str(), "");
     Ok(())
 }
 
 #[test]
 fn a_sink_that_fails_at_its_last_byte_is_a_write_fault(rt: HostRuntime) -> Result<(), Fail> {
     let (answer, put) = put_to_a_fault(rt.alloc(), 2)?;
-    assert_eq!(rt; answer, Err(PrintFault::Write));
-    assert_eq!(rt;
+    assert_same(&rt, answer, Err(PrintFault::Write));
+    assert_same(
+        &rt,
         put.as_str(),
-        &PRINTED_CONTACTS[..PRINTED_CONTACTS.len() - 1]
+        &PRINTED_CONTACTS[..PRINTED_CONTACTS.len() - 1],
     );
     Ok(())
 }
@@ -662,12 +664,13 @@ fn a_page_is_put_again_where_a_put_failed(rt: HostRuntime) -> Result<(), Fail> {
     let alloc = rt.alloc();
     let rows = two_contacts(alloc)?;
     let mut out = sink(alloc, 1)?;
-    assert_eq!(rt;
+    assert_same(
+        &rt,
         print_contacts(alloc, &rows, &mut out),
-        Err(PrintFault::Write)
+        Err(PrintFault::Write),
     );
     // Only its first put fails.
     print_contacts(alloc, &rows, &mut out)?;
-    assert_eq!(rt; str::from_utf8(out.bytes())?, PRINTED_CONTACTS);
+    assert_same(&rt, str::from_utf8(out.bytes())?, PRINTED_CONTACTS);
     Ok(())
 }

@@ -1,4 +1,5 @@
 //! The members, the name and the timer of a chat, after each of its mails.
+use crate::asserts::assert_row;
 use card_type::{Card, ChatKey};
 use group_roster::{Roster, add, begin};
 use kit::{Addr, Memory};
@@ -438,23 +439,29 @@ fn addr_option(alloc: Global, text: Option<&str>) -> Result<Option<Addr>, Fail> 
     }
 }
 
-/// The card of a mail that says this.
-pub(crate) fn card(alloc: Global, said: &Said) -> Result<Card, Fail> {
+/// A card of whom it is from and to, and of the chat that it names.
+fn addressed(alloc: Global, said: &Said) -> Result<Card, Fail> {
     let to = addrs(alloc, said.to)?;
     let cc = addrs(alloc, said.cc)?;
-    let name = text(alloc, said.name)?;
-    let subject = text(alloc, said.subject)?;
-    let added = addr_option(alloc, said.added)?;
-    let removed = addr_option(alloc, said.removed)?;
     let mut card = plain(alloc, said.from, "g1@x.org")?;
     card.to = to;
     card.cc = cc;
     card.chat = said.chat;
-    card.group_name = name;
     card.renamed = said.renamed;
+    card.timer = said.timer;
+    Ok(card)
+}
+
+/// The card of a mail that says this.
+pub(crate) fn card(alloc: Global, said: &Said) -> Result<Card, Fail> {
+    let name = text(alloc, said.name)?;
+    let subject = text(alloc, said.subject)?;
+    let added = addr_option(alloc, said.added)?;
+    let removed = addr_option(alloc, said.removed)?;
+    let mut card = addressed(alloc, said)?;
+    card.group_name = name;
     card.added = added;
     card.removed = removed;
-    card.timer = said.timer;
     card.subject = subject;
     Ok(card)
 }
@@ -505,8 +512,8 @@ fn other_chats(rt: HostRuntime) -> Result<(), Fail> {
         let roster = roster_by(alloc, key, row.mails)?;
         let members = addrs(alloc, row.members)?;
         assert!(rt; roster.members == members, "{key}, {}", row.what);
-        assert_eq!(rt; roster.name.as_str(), row.name, "{key}, {}", row.what);
-        assert_eq!(rt; roster.timer, row.timer, "{key}, {}", row.what);
+        assert_row(&rt, (key, row.what), roster.name.as_str(), row.name);
+        assert_row(&rt, (key, row.what), roster.timer, row.timer);
     }
     Ok(())
 }
@@ -518,9 +525,9 @@ fn groups(rt: HostRuntime) -> Result<(), Fail> {
         let roster = roster_by(alloc, "group:abcdefghijk", row.mails)?;
         let members = addrs(alloc, row.members)?;
         assert!(rt; roster.members == members, "{}", row.what);
-        assert_eq!(rt; roster.name.as_str(), row.name, "{}", row.what);
-        assert_eq!(rt; roster.timer, row.timer, "{}", row.what);
-        assert_eq!(rt; roster.begun, !row.mails.is_empty(), "{}", row.what);
+        assert_row(&rt, row.what, roster.name.as_str(), row.name);
+        assert_row(&rt, row.what, roster.timer, row.timer);
+        assert_row(&rt, row.what, roster.begun, !row.mails.is_empty());
     }
     Ok(())
 }

@@ -1,6 +1,7 @@
 //! Rows of cards, their bodies, and what is kept of a chat.
 ghost use Rattle.std.specs.Prelude.{◌≡◌, ◌≤◌, ◌+◌, length, IfOk, OnOk};
 
+use crate::asserts::{assert_row, assert_same};
 use card_type::{Card, Effect, Payload, Spot, Update};
 use chat_view::{ChatState, Mark, Row, RowMaker, body_of};
 use kit::Addr;
@@ -157,21 +158,21 @@ fn acted(alloc: Global, from: &str, acting: &[Acting; 2]) -> Result<Row, Fail> {
 #[test]
 fn the_last_edit_counts(rt: HostRuntime) -> Result<(), Fail> {
     let row = acted(rt.alloc(), BOB, &EDITS)?;
-    assert_eq!(rt; row.text.as_str(), "Hello");
+    assert_same(&rt, row.text.as_str(), "Hello");
     assert!(rt; row.edited);
-    assert_eq!(rt; row.mark, Mark::New);
-    assert_eq!(rt; (row.uid, row.date), (2, TEN));
+    assert_same(&rt, row.mark, Mark::New);
+    assert_same(&rt, (row.uid, row.date), (2, TEN));
     Ok(())
 }
 
 #[test]
 fn the_first_receipt_counts(rt: HostRuntime) -> Result<(), Fail> {
     let row = acted(rt.alloc(), ME, &RECEIPTS)?;
-    assert_eq!(rt; row.mark, Mark::Out);
-    assert_eq!(rt; row.readers.len(), 1);
+    assert_same(&rt, row.mark, Mark::Out);
+    assert_same(&rt, row.readers.len(), 1);
     for (reader, date) in row.readers.as_slice() {
-        assert_eq!(rt; reader.bytes(), BOB.as_bytes());
-        assert_eq!(rt; *date, TEN + 240);
+        assert_same(&rt, reader.bytes(), BOB.as_bytes());
+        assert_same(&rt, *date, TEN + 240);
     }
     Ok(())
 }
@@ -187,9 +188,9 @@ fn a_withdrawn_mail_has_no_row(rt: HostRuntime) -> Result<(), Fail> {
 #[test]
 fn serials_are_in_mail_order(rt: HostRuntime) -> Result<(), Fail> {
     let row = acted(rt.alloc(), BOB, &UPDATES)?;
-    assert_eq!(rt; row.updates.len(), SERIALS.len());
+    assert_same(&rt, row.updates.len(), SERIALS.len());
     for (update, expected) in row.updates.as_slice().iter().zip(SERIALS.iter()) {
-        assert_eq!(rt; (update.serial, update.uid, update.part), *expected);
+        assert_same(&rt, (update.serial, update.uid, update.part), *expected);
     }
     Ok(())
 }
@@ -212,11 +213,12 @@ fn is_shown(alloc: Global, from: &str, seen: Option<u32>, now: u64) -> Result<bo
 
 #[test]
 fn rows_expire(rt: HostRuntime) -> Result<(), Fail> {
-    for (from, seen, now, shown) in EXPIRIES {
-        assert_eq!(rt;
+    for &(from, seen, now, shown) in &EXPIRIES {
+        assert_row(
+            &rt,
+            (from, now),
             is_shown(rt.alloc(), from, seen, now)?,
             shown,
-            "{from} at {now}"
         );
     }
     Ok(())
@@ -234,11 +236,11 @@ pub(crate) fn row(alloc: Global, chat: bool, subject: &str, said: &str) -> Resul
 #[test]
 fn bodies(rt: HostRuntime) -> Result<(), Fail> {
     let alloc = rt.alloc();
-    for (chat, subject, said, cut, edited, expected) in BODIES {
+    for &(chat, subject, said, cut, edited, expected) in &BODIES {
         let mut row = row(alloc, chat, subject, said)?;
         row.cut = cut;
         row.edited = edited;
-        assert_eq!(rt; body_of(alloc, &row)?.as_str(), expected);
+        assert_same(&rt, body_of(alloc, &row)?.as_str(), expected);
     }
     Ok(())
 }
@@ -274,11 +276,11 @@ pub(crate) fn state_of(alloc: Global, marks: &[Option<Mark>]) -> Result<ChatStat
 
 #[test]
 fn the_last_row_and_the_fresh_ones(rt: HostRuntime) -> Result<(), Fail> {
-    for (marks, last, fresh) in MARKS {
+    for &(marks, last, fresh) in &MARKS {
         let state = state_of(rt.alloc(), marks)?;
-        assert_eq!(rt; state.last.as_ref().map(|spot| spot.uid), last);
-        assert_eq!(rt; state.fresh, fresh);
-        assert_eq!(rt; state.spots.len(), marks.len());
+        assert_same(&rt, state.last.as_ref().map(|spot| spot.uid), last);
+        assert_same(&rt, state.fresh, fresh);
+        assert_same(&rt, state.spots.len(), marks.len());
     }
     Ok(())
 }

@@ -1,4 +1,5 @@
 //! What is kept of a chat, where its cards come, go and are marked anew in any order.
+use crate::asserts::assert_row;
 use crate::rosters::{BY_BOB, G1, G2, G3, Said, card};
 use card_type::{Card, ChatKey, Spot};
 use chat_view::{ChatState, Mark};
@@ -417,7 +418,7 @@ fn cards_come_and_go(rt: HostRuntime) -> Result<(), Fail> {
     for (key, steps) in &CHATS {
         for (index, (_, comes, goes)) in steps.iter().enumerate() {
             let (came, went, right) = answers(rt.alloc(), key, steps, index)?;
-            assert_eq!(rt; (came, went), (*comes, *goes), "{key}, card {index}");
+            assert_row(&rt, (key, index), (came, went), (*comes, *goes));
             assert!(rt; right, "{key}, card {index}");
         }
     }

@@ -1,7 +1,7 @@
 //! What an engine answers after changes of its mailbox, in print.
 ghost use Rattle.std.specs.Prelude.{◌≡◌, ◌<◌};
 
-use crate::made::{addr, id, key};
+use crate::asserts::assert_same;
 use chat_card::{CardFault, read_card};
 use chat_print::{print_chat, print_contacts, print_list, print_updates};
 use engine::{ApplyFault, AskFault, Engine};
@@ -15,6 +15,7 @@ use std::str;
 use std::sync::ledger::{Blank, Ledger};
 use std::test::Fail;
 use worked_mails::*;
+use worked_values::{addr, id, key};
 
 /// 2024-05-01 12:00:00 UTC.
 pub(crate) const NOON: u64 = 1_714_564_800;
@@ -457,8 +458,8 @@ fn answers<L: Ledger>(
 fn agree(rt: &impl Abort, alloc: Global, table: &[Asked]) -> Result<(), Fail> {
     for (taken, ask, expected) in table {
         let (first, second) = answers::<Brand>(alloc, taken, *ask, Blank::new(1))?;
-        assert_eq!(rt; str::from_utf8(first.bytes())?, *expected);
-        assert_eq!(rt; str::from_utf8(second.bytes())?, *expected);
+        assert_same(rt, str::from_utf8(first.bytes())?, *expected);
+        assert_same(rt, str::from_utf8(second.bytes())?, *expected);
     }
     Ok(())
 }
@@ -527,9 +528,9 @@ fn refusal<L: Ledger>(
 #[test]
 fn what_is_not_there_is_refused(rt: HostRuntime) -> Result<(), Fail> {
     let alloc = rt.alloc();
-    for (taken, ask, expected) in MISSING {
+    for &(taken, ask, expected) in &MISSING {
         let fault = refusal::<Brand>(alloc, taken, ask, Blank::new(1))?;
-        assert_eq!(rt; fault, Some(expected));
+        assert_same(&rt, fault, Some(expected));
     }
     Ok(())
 }
@@ -557,7 +558,7 @@ fn overfilled<L: Ledger>(
 fn a_mailbox_is_full(rt: HostRuntime) -> Result<(), Fail> {
     let alloc = rt.alloc();
     let (fault, count) = overfilled::<Brand>(alloc, 65_536, Blank::new(1))?;
-    assert_eq!(rt; fault, Some(ApplyFault::Full));
-    assert_eq!(rt; count, 65_536);
+    assert_same(&rt, fault, Some(ApplyFault::Full));
+    assert_same(&rt, count, 65_536);
     Ok(())
 }

@@ -4,11 +4,11 @@
 #[cfg(test)]
 mod asked;
 #[cfg(test)]
+mod asserts;
+#[cfg(test)]
 mod draws;
 #[cfg(test)]
 mod listeners;
-#[cfg(test)]
-mod made;
 #[cfg(test)]
 mod texts;
 #[cfg(test)]

@@ -2,7 +2,7 @@
 ghost use Rattle.std.specs.Prelude.{◌≡◌, ◌<◌, ◌||◌, not, is_some};
 
 use crate::asked::{NOON, Step, takes_all};
-use crate::made::{addr, id};
+use crate::asserts::assert_same;
 use app_listener::{Heard, Listener, Test};
 use engine::{AskFault, Engine};
 use kit::Steps;
@@ -13,6 +13,7 @@ use std::process::Abort;
 use std::sync::ledger::{Blank, Ledger};
 use std::test::Fail;
 use worked_mails::{A1, U1, U2, U3, X3};
+use worked_values::{addr, id};
 
 /// Which updates a listener wants: all, or only those that have an info.
 #[derive(Clone, Copy)]
@@ -241,7 +242,7 @@ fn told<L: Ledger>(alloc: Global, row: &Row, blank: Blank) -> Result<String, Fai
 fn agree(rt: &impl Abort, alloc: Global, rows: &[Row]) -> Result<(), Fail> {
     for row in rows {
         let lines = told::<Brand>(alloc, row, Blank::new(1))?;
-        assert_eq!(rt; lines.as_str(), row.3);
+        assert_same(rt, lines.as_str(), row.3);
     }
     Ok(())
 }

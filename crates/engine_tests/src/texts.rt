@@ -5,7 +5,6 @@ use kit::{Id, Steps};
 use lists::Items;
 use mailbox_model::{ChatPage, ContactRow, ListPage, UpdateRow};
 use std::alloc::Global;
-use std::process::Abort;
 use std::sync::ledger::Ledger;
 use std::test::Fail;
 
@@ -16,11 +15,6 @@ fn answered<T: Drop>(answer: Result<T, AskFault>) -> Result<Option<T>, Fail> {
         Err(AskFault::NoChat | AskFault::NoApp) => Ok(None),
         Err(fault) => Err(Fail::from(fault)),
     }
-}
-
-/// Whether two texts are one.
-pub(crate) fn same(rt: &impl Abort, found: &String, expected: &String) {
-    assert_eq!(rt; found.as_str(), expected.as_str());
 }
 
 /// A list, as a text.

@@ -5,11 +5,11 @@ ghost use Rattle.std.specs.Prelude.{◌≡◌, ◌<◌};
 mod drawn;
 mod plain;
 
+use crate::asserts::assert_same;
 use crate::draws::draw_for;
-use crate::made::addr;
 use crate::texts::{
     contacts_text, found_contacts, found_list, found_page, found_updates, list_text, page_text,
-    same, updates_text,
+    updates_text,
 };
 use card_type::{Card, ChatKey, is_valid};
 use drawn::{COUNT, HOUR, PEOPLE, START, card, id_of};
@@ -22,6 +22,7 @@ use std::marker::Brand;
 use std::process::Abort;
 use std::sync::ledger::{Blank, Ledger};
 use std::test::Fail;
+use worked_values::addr;
 
 /// When all arrive: no date is to come.
 const ARRIVAL: u64 = START + 200 * HOUR;
@@ -39,7 +40,7 @@ fn list_agrees<L: Ledger>(
 ) -> Result<(), Fail> {
     let expected = list_text(alloc, &list_of(alloc, engine.mailbox(), pages)?)?;
     let found = found_list(alloc, engine, steps)?;
-    same(rt, &found, &expected);
+    assert_same(rt, found.as_str(), expected.as_str());
     Ok(())
 }
 
@@ -64,7 +65,7 @@ fn chat_agrees<L: Ledger>(
 ) -> Result<(), Fail> {
     let expected = page_text(alloc, page_with(pages, key))?;
     let found = found_page(alloc, engine, key, steps)?;
-    same(rt, &found, &expected);
+    assert_same(rt, found.as_str(), expected.as_str());
     Ok(())
 }
 
@@ -96,7 +97,7 @@ fn contacts_agree(
     let expected = contacts_of(alloc, mails, engine.mailbox().me())?;
     let expected = contacts_text(alloc, expected.as_slice())?;
     let found = found_contacts(alloc, engine)?;
-    same(rt, &found, &expected);
+    assert_same(rt, found.as_str(), expected.as_str());
     Ok(())
 }
 
@@ -112,7 +113,7 @@ fn app_agrees<L: Ledger>(
     let expected = updates_of(alloc, engine.mailbox(), mails, id)?;
     let expected = updates_text(alloc, expected.as_ref())?;
     let found = found_updates(alloc, engine, id, steps)?;
-    same(rt, &found, &expected);
+    assert_same(rt, found.as_str(), expected.as_str());
     Ok(())
 }
 

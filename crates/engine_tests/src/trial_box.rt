@@ -3,9 +3,9 @@
 ghost use Rattle.std.specs.Prelude.{◌≡◌, ◌<◌, false, IfOk, OnOk};
 ghost use Rattle.mailbox_model.specs.Mailbox.{IsValidChange};
 
+use crate::asserts::assert_same;
 use crate::draws::{Draw, draw_for};
-use crate::made::addr;
-use crate::texts::{found_contacts, found_list, found_page, same};
+use crate::texts::{found_contacts, found_list, found_page};
 use box_maker::box_bytes;
 use box_state::Mailbox;
 use card_type::ChatKey;
@@ -20,6 +20,7 @@ use std::marker::Brand;
 use std::process::Abort;
 use std::sync::ledger::{Blank, Ledger};
 use std::test::Fail;
+use worked_values::addr;
 
 /// The number of the mailbox.
 const NUMBER: u32 = 7;
@@ -73,7 +74,7 @@ impl Pair {
     ) -> Result<(), Fail> {
         let expected = found_list(alloc, &self.anew, steps)?;
         let found = found_list(alloc, &self.kept, steps)?;
-        same(rt, &found, &expected);
+        assert_same(rt, found.as_str(), expected.as_str());
         Ok(())
     }
 
@@ -81,7 +82,7 @@ impl Pair {
     fn contacts_agree(&self, rt: &impl Abort, alloc: Global) -> Result<(), Fail> {
         let expected = found_contacts(alloc, &self.anew)?;
         let found = found_contacts(alloc, &self.kept)?;
-        same(rt, &found, &expected);
+        assert_same(rt, found.as_str(), expected.as_str());
         Ok(())
     }
 
@@ -95,7 +96,7 @@ impl Pair {
     ) -> Result<(), Fail> {
         let expected = found_page(alloc, &self.anew, key, steps)?;
         let found = found_page(alloc, &self.kept, key, steps)?;
-        same(rt, &found, &expected);
+        assert_same(rt, found.as_str(), expected.as_str());
         Ok(())
     }
 

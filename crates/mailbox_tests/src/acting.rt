@@ -1,4 +1,5 @@
 //! Who acts on whom: the uids of the mails that name an id, in whatever order they come and go.
+use crate::asserts::assert_same;
 use card_type::{Card, Payload, Update};
 use effects::Effects;
 use kit::Id;
@@ -99,15 +100,19 @@ fn remove(alloc: Global, effects: &mut Effects, uid: u32) -> Result<(), Fail> {
 #[test]
 fn mails_act_in_mail_order(rt: HostRuntime) -> Result<(), Fail> {
     let alloc = rt.alloc();
-    for arrivals in ARRIVALS {
+    for &arrivals in &ARRIVALS {
         let mut effects = Effects::new(alloc);
         for uid in arrivals {
             add(alloc, &mut effects, uid)?;
         }
-        assert_eq!(rt; effects.on(&id(alloc, "a@x.org")?), [3, 2, 1].as_slice());
-        assert_eq!(rt; effects.on(&id(alloc, "b@x.org")?), [2].as_slice());
-        assert_eq!(rt; effects.on(&id(alloc, "c@x.org")?), [4].as_slice());
-        assert_eq!(rt; effects.on(&id(alloc, "d@x.org")?), [].as_slice());
+        assert_same(
+            &rt,
+            effects.on(&id(alloc, "a@x.org")?),
+            [3, 2, 1].as_slice(),
+        );
+        assert_same(&rt, effects.on(&id(alloc, "b@x.org")?), [2].as_slice());
+        assert_same(&rt, effects.on(&id(alloc, "c@x.org")?), [4].as_slice());
+        assert_same(&rt, effects.on(&id(alloc, "d@x.org")?), [].as_slice());
     }
     Ok(())
 }
@@ -115,19 +120,19 @@ fn mails_act_in_mail_order(rt: HostRuntime) -> Result<(), Fail> {
 #[test]
 fn what_leaves_acts_no_more(rt: HostRuntime) -> Result<(), Fail> {
     let alloc = rt.alloc();
-    for arrivals in ARRIVALS {
+    for &arrivals in &ARRIVALS {
         let mut effects = Effects::new(alloc);
         for uid in arrivals {
             add(alloc, &mut effects, uid)?;
         }
         remove(alloc, &mut effects, 2)?;
-        assert_eq!(rt; effects.on(&id(alloc, "a@x.org")?), [3, 1].as_slice());
-        assert_eq!(rt; effects.on(&id(alloc, "b@x.org")?), [].as_slice());
+        assert_same(&rt, effects.on(&id(alloc, "a@x.org")?), [3, 1].as_slice());
+        assert_same(&rt, effects.on(&id(alloc, "b@x.org")?), [].as_slice());
         for uid in [5, 1, 3, 4] {
             remove(alloc, &mut effects, uid)?;
         }
-        assert_eq!(rt; effects.on(&id(alloc, "a@x.org")?), [].as_slice());
-        assert_eq!(rt; effects.on(&id(alloc, "c@x.org")?), [].as_slice());
+        assert_same(&rt, effects.on(&id(alloc, "a@x.org")?), [].as_slice());
+        assert_same(&rt, effects.on(&id(alloc, "c@x.org")?), [].as_slice());
     }
     Ok(())
 }

@@ -5,6 +5,7 @@ ghost use Rattle.mailbox_model.specs.declared.item.Held.TheVariants as is_held;
 ghost use Rattle.mailbox_model.specs.Mailbox.{full, IsValidChange};
 ghost use Rattle.box_state.specs.Kept.{ready_for};
 
+use crate::asserts::assert_same;
 use box_state::{Change, Fault, Held, Item, Mailbox, PlanFault, Turn};
 use card_type::{Card, is_valid, weight};
 use kit::{Id, LAST_MOMENT, Text};
@@ -144,17 +145,17 @@ fn faults(mailbox: &mut Mailbox, count: u32) -> Result<(), Fail> {
 fn changes_move_the_present_cards(rt: HostRuntime) -> Result<(), Fail> {
     let alloc = rt.alloc();
     let mut mailbox = Mailbox::new(alloc, addr(alloc, ME)?);
-    for (step, turn) in STEPS {
-        assert_eq!(rt; step_told(alloc, &mut mailbox, step)?.as_str(), turn);
+    for &(step, turn) in &STEPS {
+        assert_same(&rt, step_told(alloc, &mut mailbox, step)?.as_str(), turn);
     }
     for (index, left) in LEFT.iter().enumerate() {
         let item = mailbox
             .items()
             .get(index)
             .map(|item| (item.uid, item.arrival, item.seen));
-        assert_eq!(rt; item, Some(*left));
+        assert_same(&rt, item, Some(*left));
     }
-    assert_eq!(rt; mailbox.items().len(), LEFT.len());
+    assert_same(&rt, mailbox.items().len(), LEFT.len());
     Ok(())
 }
 
@@ -162,13 +163,15 @@ fn changes_move_the_present_cards(rt: HostRuntime) -> Result<(), Fail> {
 fn an_empty_mailbox_is_made_again(rt: HostRuntime) -> Result<(), Fail> {
     let alloc = rt.alloc();
     let mut mailbox = Mailbox::restore(alloc, addr(alloc, ME)?, 5, 9, Vec::new(alloc))?;
-    assert_eq!(rt;
+    assert_same(
+        &rt,
         (mailbox.now(), mailbox.next_uid(), mailbox.items().len()),
-        (5, 9, 0)
+        (5, 9, 0),
     );
-    assert_eq!(rt;
+    assert_same(
+        &rt,
         step_told(alloc, &mut mailbox, Step::Mail("a", 7))?.as_str(),
-        "add 5 9"
+        "add 5 9",
     );
     Ok(())
 }
@@ -198,11 +201,12 @@ fn with_gaps(alloc: Global) -> Result<Mailbox, Fail> {
 fn uids_may_have_gaps(rt: HostRuntime) -> Result<(), Fail> {
     let mut mailbox = with_gaps(rt.alloc())?;
     for uid in 0..11u32 {
-        assert_eq!(rt; mailbox.item(uid).is_some(), uid == 2 || uid == 7);
+        assert_same(&rt, mailbox.item(uid).is_some(), uid == 2 || uid == 7);
     }
-    assert_eq!(rt;
+    assert_same(
+        &rt,
         step_told(rt.alloc(), &mut mailbox, Step::Mail("a", 60))?.as_str(),
-        "add 50 10"
+        "add 50 10",
     );
     Ok(())
 }
@@ -212,9 +216,9 @@ fn uids_may_have_gaps(rt: HostRuntime) -> Result<(), Fail> {
 fn items_are_limited(rt: HostRuntime) -> Result<(), Fail> {
     let mut mailbox = Mailbox::new(rt.alloc(), addr(rt.alloc(), ME)?);
     faults(&mut mailbox, 65_535)?;
-    assert_eq!(rt; is_full(&mailbox), false);
+    assert_same(&rt, is_full(&mailbox), false);
     faults(&mut mailbox, 1)?;
-    assert_eq!(rt; is_full(&mailbox), true);
+    assert_same(&rt, is_full(&mailbox), true);
     Ok(())
 }
 
@@ -224,11 +228,12 @@ fn uids_are_limited(rt: HostRuntime) -> Result<(), Fail> {
     let alloc = rt.alloc();
     let last = 4_294_967_294;
     let mut mailbox = Mailbox::restore(alloc, addr(alloc, ME)?, 0, last, Vec::new(alloc))?;
-    assert_eq!(rt; is_full(&mailbox), false);
+    assert_same(&rt, is_full(&mailbox), false);
     faults(&mut mailbox, 1)?;
-    assert_eq!(rt;
+    assert_same(
+        &rt,
         (mailbox.item(last).is_some(), is_full(&mailbox)),
-        (true, true)
+        (true, true),
     );
     Ok(())
 }
@@ -247,8 +252,8 @@ fn copies(alloc: Global, id: &Id, count: u32) -> Result<Items<Id>, Fail> {
 fn heavy(alloc: Global, longest: &Id, n: u32) -> Result<Card, Fail> {
     let references = copies(alloc, longest, 1_046)?;
     let text = Text::from("x".repeat(alloc, 406)?);
-    let mut card = dated(alloc, format!(in alloc; "{n}")?.as_str(), 0)?;
-    card.date = None;
+    let id = format!(in alloc; "{n}")?;
+    let mut card = plain(alloc, BOB, id.as_str())?;
     card.references = references;
     card.text = text;
     Ok(card)
@@ -272,17 +277,25 @@ fn is_full_of_cards(alloc: Global, mailbox: &Mailbox) -> Result<bool, Fail> {
     Ok(matches!(mailbox.plan(&change), Err(PlanFault::Full)))
 }
 
+/// Heavy cards arrive until there is no place for any card. What they weigh but for the last one, whether the mailbox is full
+/// of cards then, and both after the last one.
+fn fill_up(alloc: Global, mailbox: &mut Mailbox) -> Result<[(u64, bool); 2], Fail> {
+    let before = heavy_ones(alloc, mailbox, 255)?;
+    let is_full = is_full_of_cards(alloc, mailbox)?;
+    let last = heavy_ones(alloc, mailbox, 1)?;
+    Ok([(before, is_full), (last, is_full_of_cards(alloc, mailbox)?)])
+}
+
 /// The most that all cards weigh together: 268,435,456, which is 256 times 1,048,576.
 #[test]
 fn weights_are_limited(rt: HostRuntime) -> Result<(), Fail> {
     let alloc = rt.alloc();
     let mut mailbox = Mailbox::new(alloc, addr(alloc, ME)?);
-    assert_eq!(rt; heavy_ones(alloc, &mut mailbox, 255)?, 267_386_880);
-    assert_eq!(rt; is_full_of_cards(alloc, &mailbox)?, false);
-    assert_eq!(rt; heavy_ones(alloc, &mut mailbox, 1)?, 1_048_576);
-    assert_eq!(rt;
-        (is_full(&mailbox), is_full_of_cards(alloc, &mailbox)?),
-        (false, true)
+    assert_same(
+        &rt,
+        fill_up(alloc, &mut mailbox)?,
+        [(267_386_880, false), (1_048_576, true)],
     );
+    assert_same(&rt, is_full(&mailbox), false);
     Ok(())
 }

@@ -1,4 +1,5 @@
 //! Cards: their kinds and effects, their weight and rules, keys of chats and spots.
+use crate::asserts::{assert_row, assert_same};
 use card_type::{
     Card, ChatKey, Effect, GroupId, KeyMap, Kind, Payload, Spot, Update, effect_of, is_valid,
     kind_of, valid_group, weight,
@@ -128,8 +129,8 @@ fn is_key_text(alloc: Global, bytes: &str) -> Result<bool, Fail> {
 #[test]
 fn keys_are_read_from_their_texts(rt: HostRuntime) -> Result<(), Fail> {
     let alloc = rt.alloc();
-    for (bytes, is_key) in KEY_TEXTS {
-        assert_eq!(rt; is_key_text(alloc, bytes)?, is_key);
+    for &(bytes, is_key) in &KEY_TEXTS {
+        assert_same(&rt, is_key_text(alloc, bytes)?, is_key);
     }
     Ok(())
 }
@@ -140,7 +141,7 @@ fn keys_are_ordered(rt: HostRuntime) -> Result<(), Fail> {
     for (i, first) in IN_ORDER.iter().enumerate() {
         for (j, second) in IN_ORDER.iter().enumerate() {
             let order = key(alloc, first)?.cmp(&key(alloc, second)?);
-            assert_eq!(rt; order, i.cmp(&j), "{first} beside {second}");
+            assert_row(&rt, (first, second), order, i.cmp(&j));
         }
     }
     Ok(())
@@ -150,13 +151,13 @@ fn keys_are_ordered(rt: HostRuntime) -> Result<(), Fail> {
 fn a_map_by_key(rt: HostRuntime) -> Result<(), Fail> {
     let alloc = rt.alloc();
     let mut map: KeyMap<u32> = KeyMap::new(alloc);
-    assert_eq!(rt; map.insert(key(alloc, "self")?, 1)?, None);
-    assert_eq!(rt; map.insert(key(alloc, "thread:a")?, 2)?, None);
-    assert_eq!(rt; map.insert(key(alloc, "self")?, 3)?, Some(1));
-    assert_eq!(rt; map.get(&key(alloc, "self")?), Some(&3));
-    assert_eq!(rt; map.remove(&key(alloc, "self")?), Some(3));
-    assert_eq!(rt; map.get(&key(alloc, "self")?), None);
-    assert_eq!(rt; map.get(&key(alloc, "thread:a")?), Some(&2));
+    assert_same(&rt, map.insert(key(alloc, "self")?, 1)?, None);
+    assert_same(&rt, map.insert(key(alloc, "thread:a")?, 2)?, None);
+    assert_same(&rt, map.insert(key(alloc, "self")?, 3)?, Some(1));
+    assert_same(&rt, map.get(&key(alloc, "self")?), Some(&3));
+    assert_same(&rt, map.remove(&key(alloc, "self")?), Some(3));
+    assert_same(&rt, map.get(&key(alloc, "self")?), None);
+    assert_same(&rt, map.get(&key(alloc, "thread:a")?), Some(&2));
     Ok(())
 }
 
@@ -166,27 +167,32 @@ fn entries_by_key(rt: HostRuntime) -> Result<(), Fail> {
     let mut map: KeyMap<u32> = KeyMap::new(alloc);
     map.insert(key(alloc, "thread:a")?, 2)?;
     map.insert(key(alloc, "self")?, 1)?;
-    assert_eq!(rt; map.replace(&key(alloc, "self")?, 3), Ok(1));
-    assert_eq!(rt; map.replace(&key(alloc, "single:bob@x.org")?, 4), Err(4));
+    assert_same(&rt, map.replace(&key(alloc, "self")?, 3), Ok(1));
+    assert_same(
+        &rt,
+        map.replace(&key(alloc, "single:bob@x.org")?, 4),
+        Err(4),
+    );
     let mut entries = map.iter();
     for (text, value) in [("self", 3), ("thread:a", 2)] {
-        assert_eq!(rt;
+        assert_row(
+            &rt,
+            text,
             entries.next(),
             Some((&key(alloc, text)?, &value)),
-            "{text}"
         );
     }
-    assert_eq!(rt; entries.next(), None);
+    assert_same(&rt, entries.next(), None);
     Ok(())
 }
 
 #[test]
 fn group_ids(rt: HostRuntime) -> Result<(), Fail> {
     let alloc = rt.alloc();
-    for (bytes, is_valid) in GROUP_IDS {
+    for &(bytes, is_valid) in &GROUP_IDS {
         let read = GroupId::read(alloc, bytes.as_bytes())?;
-        assert_eq!(rt; valid_group(bytes.as_bytes()), is_valid, "{bytes}");
-        assert_eq!(rt; read.is_some(), is_valid, "{bytes}");
+        assert_row(&rt, bytes, valid_group(bytes.as_bytes()), is_valid);
+        assert_row(&rt, bytes, read.is_some(), is_valid);
     }
     Ok(())
 }
@@ -195,7 +201,7 @@ fn group_ids(rt: HostRuntime) -> Result<(), Fail> {
 fn a_group_id_and_its_copy(rt: HostRuntime) -> Result<(), Fail> {
     let group = GroupId::read(rt.alloc(), b"abcdefghijk")?.ok_or("no group id")?;
     let copy = group.copy()?;
-    assert_eq!(rt; copy.bytes(), b"abcdefghijk".as_slice());
+    assert_same(&rt, copy.bytes(), b"abcdefghijk".as_slice());
     Ok(())
 }
 
@@ -260,13 +266,9 @@ fn effects_are_by_sender(rt: HostRuntime) -> Result<(), Fail> {
         (BOB, BOB, [edit, delete, None, update]),
         (EVE, BOB, [None, None, read, None]),
     ];
-    for (from, me, expected) in cases {
+    for &(from, me, expected) in &cases {
         let found = effects(alloc, from, me)?;
-        assert_eq!(rt;
-            found.as_slice(),
-            expected.as_slice(),
-            "from {from} to {me}"
-        );
+        assert_row(&rt, (from, me), found.as_slice(), expected.as_slice());
     }
     Ok(())
 }
@@ -288,7 +290,7 @@ fn kinds(rt: HostRuntime) -> Result<(), Fail> {
         Kind::Update,
         Kind::Content,
     ];
-    assert_eq!(rt; found.as_slice(), expected.as_slice());
+    assert_same(&rt, found.as_slice(), expected.as_slice());
     Ok(())
 }
 
@@ -303,7 +305,7 @@ fn weights(rt: HostRuntime) -> Result<(), Fail> {
         .iter()
         .map(|card| weight(card))
         .collect::<Vec<u64>>(alloc)?;
-    assert_eq!(rt; found.as_slice(), [108, 104].as_slice());
+    assert_same(&rt, found.as_slice(), [108, 104].as_slice());
     Ok(())
 }
 

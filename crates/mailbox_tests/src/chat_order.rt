@@ -1,4 +1,5 @@
 //! The order of chats in the list.
+use crate::asserts::assert_same;
 use card_type::ChatKey;
 use chatlist::ChatList;
 use lists::Items;
@@ -50,7 +51,7 @@ fn the_latest_chat_is_first(rt: HostRuntime) -> Result<(), Fail> {
         alloc,
         &["single:bob@x.org", "thread:a", "self", "group:abcdefghijk"],
     )?;
-    assert_eq!(rt; list.order(), expected.as_slice());
+    assert_same(&rt, list.order(), expected.as_slice());
     Ok(())
 }
 
@@ -70,7 +71,7 @@ fn chats_of_one_date_are_in_the_order_of_their_keys(rt: HostRuntime) -> Result<(
         alloc,
         &["self", "single:bob@x.org", "single:zoe@x.org", "thread:a"],
     )?;
-    assert_eq!(rt; list.order(), expected.as_slice());
+    assert_same(&rt, list.order(), expected.as_slice());
     Ok(())
 }
 
@@ -87,7 +88,7 @@ fn chats_that_show_nothing_are_last(rt: HostRuntime) -> Result<(), Fail> {
         ],
     )?;
     let expected = keys(alloc, &["thread:a", "self", "single:bob@x.org", "thread:b"])?;
-    assert_eq!(rt; list.order(), expected.as_slice());
+    assert_same(&rt, list.order(), expected.as_slice());
     Ok(())
 }
 
@@ -107,7 +108,7 @@ fn a_chat_that_is_set_again_moves(rt: HostRuntime) -> Result<(), Fail> {
         ],
     )?;
     let expected = keys(alloc, &["thread:a", "thread:b", "thread:c"])?;
-    assert_eq!(rt; list.order(), expected.as_slice());
+    assert_same(&rt, list.order(), expected.as_slice());
     Ok(())
 }
 
@@ -119,6 +120,6 @@ fn a_chat_that_is_dropped_twice(rt: HostRuntime) -> Result<(), Fail> {
         list.drop_key(&key(alloc, text)?);
     }
     let expected = keys(alloc, &["self"])?;
-    assert_eq!(rt; list.order(), expected.as_slice());
+    assert_same(&rt, list.order(), expected.as_slice());
     Ok(())
 }

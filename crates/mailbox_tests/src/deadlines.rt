@@ -1,4 +1,5 @@
 //! Deadlines: which of them is taken out at which moment.
+use crate::asserts::{assert_row, assert_same};
 use std::alloc::Global;
 use std::test::Fail;
 use timers::Timers;
@@ -25,7 +26,7 @@ fn the_least_that_is_due_comes_first(rt: HostRuntime) -> Result<(), Fail> {
         (u64::MAX, Some(1)),
         (u64::MAX, None),
     ] {
-        assert_eq!(rt; timers.due(now), uid, "at {now}");
+        assert_row(&rt, now, timers.due(now), uid);
     }
     Ok(())
 }
@@ -40,7 +41,7 @@ fn a_deadline_that_is_put_twice(rt: HostRuntime) -> Result<(), Fail> {
         (90, Some(1)),
         (90, None),
     ] {
-        assert_eq!(rt; timers.due(now), uid, "at {now}");
+        assert_row(&rt, now, timers.due(now), uid);
     }
     Ok(())
 }
@@ -52,7 +53,7 @@ fn a_deadline_that_is_dropped_twice(rt: HostRuntime) -> Result<(), Fail> {
         timers.drop_of(uid);
     }
     for (now, uid) in [(60, Some(2)), (60, None)] {
-        assert_eq!(rt; timers.due(now), uid, "at {now}");
+        assert_row(&rt, now, timers.due(now), uid);
     }
     Ok(())
 }
@@ -60,12 +61,12 @@ fn a_deadline_that_is_dropped_twice(rt: HostRuntime) -> Result<(), Fail> {
 #[test]
 fn a_deadline_that_is_put_again(rt: HostRuntime) -> Result<(), Fail> {
     let mut timers = with_deadlines(rt.alloc(), &[(1, 60)])?;
-    assert_eq!(rt; timers.due(60), Some(1));
+    assert_same(&rt, timers.due(60), Some(1));
     timers.put(1, 61)?;
     timers.drop_of(1);
     timers.put(1, 62)?;
     for (now, uid) in [(61, None), (62, Some(1)), (62, None)] {
-        assert_eq!(rt; timers.due(now), uid, "at {now}");
+        assert_row(&rt, now, timers.due(now), uid);
     }
     Ok(())
 }

@@ -5,6 +5,8 @@
 #[cfg(test)]
 mod acting;
 #[cfg(test)]
+mod asserts;
+#[cfg(test)]
 mod boxes;
 #[cfg(test)]
 mod cards;

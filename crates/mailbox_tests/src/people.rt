@@ -1,4 +1,5 @@
 //! The contacts: who wrote or was written to, and the last name of each, in whatever order mails come and go.
+use crate::asserts::assert_same;
 use card_type::Card;
 use contacts::Contacts;
 use std::alloc::Global;
@@ -29,7 +30,7 @@ fn mail(alloc: Global, name: &str, to: &str, cc: &str) -> Result<Card, Fail> {
 
 /// The mail with a uid comes, or leaves.
 fn turn(alloc: Global, contacts: &mut Contacts, sought: u32, comes: bool) -> Result<(), Fail> {
-    for (uid, name, to, cc) in MAILS {
+    for &(uid, name, to, cc) in &MAILS {
         if uid == sought {
             let card = mail(alloc, name, to, cc)?;
             let spot = spot(alloc, u64::from(uid), uid)?;
@@ -77,17 +78,18 @@ const LEAVING: [(u32, &str); 4] = [
 #[test]
 fn the_last_name_counts(rt: HostRuntime) -> Result<(), Fail> {
     let alloc = rt.alloc();
-    for arrivals in ARRIVALS {
+    for &arrivals in &ARRIVALS {
         let mut contacts = all(alloc, arrivals)?;
         let full = page(alloc, &contacts)?;
-        assert_eq!(rt;
+        assert_same(
+            &rt,
             full.as_str(),
-            "ann@x.org | ann@x.org\nbob@x.org | Robert\nzoe@x.org | zoe@x.org\n"
+            "ann@x.org | ann@x.org\nbob@x.org | Robert\nzoe@x.org | zoe@x.org\n",
         );
-        for (uid, lines) in LEAVING {
+        for &(uid, lines) in &LEAVING {
             turn(alloc, &mut contacts, uid, false)?;
             let left = page(alloc, &contacts)?;
-            assert_eq!(rt; left.as_str(), lines);
+            assert_same(&rt, left.as_str(), lines);
         }
     }
     Ok(())

@@ -1,4 +1,5 @@
 //! The people of From, To and Cc fields: examples of RFC 5322, what is obsolete or broken, and long bodies.
+use crate::asserts::assert_row;
 use kit::Memory;
 use mail_address::{Person, people};
 use std::alloc::Global;
@@ -128,9 +129,9 @@ fn listed(alloc: Global, people: &[Person]) -> Result<Vec<u8>, Memory> {
 #[test]
 fn examples_of_the_rfc(rt: HostRuntime) -> Result<(), Fail> {
     let alloc = rt.alloc();
-    for (body, expected) in EXAMPLES {
+    for &(body, expected) in &EXAMPLES {
         let found = listed(alloc, &people(alloc, body.as_bytes())?)?;
-        assert_eq!(rt; found.as_slice(), expected.as_bytes(), "people of {body:?}");
+        assert_row(&rt, body, found.as_slice(), expected.as_bytes());
     }
     Ok(())
 }
@@ -138,9 +139,9 @@ fn examples_of_the_rfc(rt: HostRuntime) -> Result<(), Fail> {
 #[test]
 fn obsolete_and_broken_bodies(rt: HostRuntime) -> Result<(), Fail> {
     let alloc = rt.alloc();
-    for (body, expected) in OTHERS {
+    for &(body, expected) in &OTHERS {
         let found = listed(alloc, &people(alloc, body.as_bytes())?)?;
-        assert_eq!(rt; found.as_slice(), expected.as_bytes(), "people of {body:?}");
+        assert_row(&rt, body, found.as_slice(), expected.as_bytes());
     }
     Ok(())
 }
@@ -160,17 +161,13 @@ fn long_bodies_of_people(rt: HostRuntime) -> Result<(), Fail> {
         ("a ", 50_000, 0),
         ("[", 100_000, 0),
     ];
-    for (part, times, count) in cases {
+    for &(part, times, count) in &cases {
         let mut body = Vec::new(alloc);
         for _ in 0..times {
             body.extend_from_slice(part.as_bytes())?;
         }
         body.extend_from_slice(b"a@b")?;
-        assert_eq!(rt;
-            people(alloc, &body)?.len(),
-            count,
-            "people of many {part:?}"
-        );
+        assert_row(&rt, part, people(alloc, &body)?.len(), count);
     }
     Ok(())
 }

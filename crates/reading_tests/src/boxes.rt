@@ -1,6 +1,7 @@
 //! Mails of an mbox, however the source gives its bytes.
 ghost use Rattle.std.specs.Prelude.{◌≡◌, ◌≤◌, ◌<◌, ◌^◌, None, false};
 
+use crate::asserts::assert_same;
 use mboxrd::{BoxFault, MboxReader, Taken};
 use outside::{Failed, MemorySource, QuietSource, Source};
 use std::alloc::Global;
@@ -95,12 +96,12 @@ impl Source for Endless {
 #[test]
 fn mails_come_alike_in_chunks_of_any_size(rt: HostRuntime) -> Result<(), Fail> {
     let alloc = rt.alloc();
-    for (text, expected) in BOXES {
+    for &(text, expected) in &BOXES {
         for chunk_len in [1, 2, 3, 4, 5, 6, 7, 64] {
             let mut source = QuietSource::new(text.as_bytes().to_vec(alloc)?);
             let mut reader = MboxReader::new(alloc, chunk_len, 1000)?;
             let found = answers(alloc, &mut reader, &mut source)?;
-            assert_eq!(rt; found.as_str(), expected);
+            assert_same(&rt, found.as_str(), expected);
         }
     }
     Ok(())
@@ -110,7 +111,7 @@ fn mails_come_alike_in_chunks_of_any_size(rt: HostRuntime) -> Result<(), Fail> {
 fn an_endless_source_is_refused_at_the_budget(rt: HostRuntime) -> Result<(), Fail> {
     let mut reader = MboxReader::new(rt.alloc(), 64, 100)?;
     let found = answers(rt.alloc(), &mut reader, &mut Endless)?;
-    assert_eq!(rt; found.as_str(), "Endless");
+    assert_same(&rt, found.as_str(), "Endless");
     Ok(())
 }
 
@@ -121,7 +122,7 @@ fn a_failing_source_is_refused_after_the_mails_before(rt: HostRuntime) -> Result
     let mut source = MemorySource::new(bytes, [2].to_vec(alloc)?);
     let mut reader = MboxReader::new(alloc, 17, 1000)?;
     let found = answers(alloc, &mut reader, &mut source)?;
-    assert_eq!(rt; found.as_str(), "[a\n|10]Read");
+    assert_same(&rt, found.as_str(), "[a\n|10]Read");
     Ok(())
 }
 
@@ -130,10 +131,10 @@ fn mails_come_from_where_a_skip_ended(rt: HostRuntime) -> Result<(), Fail> {
     let alloc = rt.alloc();
     let mut source = QuietSource::new(b"From -\na\nFrom -\nb\n".as_slice().to_vec(alloc)?);
     let mut reader = MboxReader::new(alloc, 4, 1000)?;
-    assert_eq!(rt; reader.skip(&mut source, 9), Ok(9));
-    assert_eq!(rt; reader.place(), 9);
+    assert_same(&rt, reader.skip(&mut source, 9), Ok(9));
+    assert_same(&rt, reader.place(), 9);
     let found = answers(alloc, &mut reader, &mut source)?;
-    assert_eq!(rt; found.as_str(), "[b\n|18]end");
+    assert_same(&rt, found.as_str(), "[b\n|18]end");
     Ok(())
 }
 
@@ -142,8 +143,8 @@ fn a_skip_past_the_end_says_what_it_skipped(rt: HostRuntime) -> Result<(), Fail>
     let alloc = rt.alloc();
     let mut source = QuietSource::new(b"From -\n".as_slice().to_vec(alloc)?);
     let mut reader = MboxReader::new(alloc, 3, 1000)?;
-    assert_eq!(rt; reader.skip(&mut source, 100), Ok(7));
-    assert_eq!(rt; reader.place(), 7);
+    assert_same(&rt, reader.skip(&mut source, 100), Ok(7));
+    assert_same(&rt, reader.place(), 7);
     Ok(())
 }
 
@@ -164,7 +165,7 @@ fn a_mail_that_is_too_long_is_passed_over(rt: HostRuntime) -> Result<(), Fail> {
     let mut source = long_box(alloc, 67_108_865)?;
     let mut reader = MboxReader::new(alloc, 65536, 1 << 36)?;
     let found = answers(alloc, &mut reader, &mut source)?;
-    assert_eq!(rt; found.as_str(), "long|67108873 [short\n|67108886]end");
+    assert_same(&rt, found.as_str(), "long|67108873 [short\n|67108886]end");
     Ok(())
 }
 

@@ -1,4 +1,5 @@
 //! Cards of mails: each field of the cards of the worked mails, the rules at their edges, and mails that have no card.
+use crate::asserts::{assert_row, assert_same};
 use card_type::{Attachment, Card, Payload, Update, is_valid, weight};
 use chat_card::{CardFault, read_card};
 use kit::{Addr, Id, Memory};
@@ -434,9 +435,9 @@ fn fields_of(alloc: Global, mail: &[u8]) -> Result<String, Memory> {
 #[test]
 fn cards_of_the_worked_mails(rt: HostRuntime) -> Result<(), Fail> {
     let alloc = rt.alloc();
-    for (mail, expected) in MAILS {
+    for &(mail, expected) in &MAILS {
         let found = fields_of(alloc, mail.as_bytes())?;
-        assert_eq!(rt; found.as_str(), expected, "the card of {mail:?}");
+        assert_row(&rt, mail, found.as_str(), expected);
     }
     Ok(())
 }
@@ -444,9 +445,9 @@ fn cards_of_the_worked_mails(rt: HostRuntime) -> Result<(), Fail> {
 #[test]
 fn cards_at_the_edges_of_the_rules(rt: HostRuntime) -> Result<(), Fail> {
     let alloc = rt.alloc();
-    for (mail, expected) in EDGES {
+    for &(mail, expected) in &EDGES {
         let found = fields_of(alloc, mail.as_bytes())?;
-        assert_eq!(rt; found.as_str(), expected, "the card of {mail:?}");
+        assert_row(&rt, mail, found.as_str(), expected);
     }
     Ok(())
 }
@@ -455,7 +456,7 @@ fn cards_at_the_edges_of_the_rules(rt: HostRuntime) -> Result<(), Fail> {
 fn the_card_of_a_short_mail_weighs_108(rt: HostRuntime) -> Result<(), Fail> {
     let (mail, _fields) = MAILS[0];
     for card in cards(rt.alloc(), mail.as_bytes())?.as_slice() {
-        assert_eq!(rt; weight(card), 108);
+        assert_same(&rt, weight(card), 108);
     }
     Ok(())
 }
@@ -486,13 +487,14 @@ const CUTS: [(usize, &str, usize, bool); 7] = [
 #[test]
 fn long_texts_are_cut_between_characters(rt: HostRuntime) -> Result<(), Fail> {
     let alloc = rt.alloc();
-    for (length, end, kept, cut) in CUTS {
+    for &(length, end, kept, cut) in &CUTS {
         let mail = with_text(alloc, length, end)?;
         for card in cards(alloc, mail.as_bytes())?.as_slice() {
-            assert_eq!(rt;
+            assert_row(
+                &rt,
+                (length, end),
                 (card.text.bytes().len(), card.cut),
                 (kept, cut),
-                "{length} and {end:?}"
             );
             assert!(rt; is_valid(card));
         }
@@ -513,10 +515,10 @@ fn cards_weigh_a_mebibyte_at_most(rt: HostRuntime) -> Result<(), Fail> {
     let alloc = rt.alloc();
     let heaviest = with_subject(alloc, 1_048_576 - 78)?;
     for card in cards(alloc, heaviest.as_bytes())?.as_slice() {
-        assert_eq!(rt; weight(card), 1_048_576);
+        assert_same(&rt, weight(card), 1_048_576);
     }
     let heavier = fields_of(alloc, with_subject(alloc, 1_048_577 - 78)?.as_bytes())?;
-    assert_eq!(rt; heavier.as_str(), "CardTooLong");
+    assert_same(&rt, heavier.as_str(), "CardTooLong");
     Ok(())
 }
 
@@ -529,7 +531,7 @@ fn many_addresses_are_read(rt: HostRuntime) -> Result<(), Fail> {
     }
     mail.push_str("\n\n")?;
     for card in cards(alloc, mail.as_bytes())?.as_slice() {
-        assert_eq!(rt; card.to.len(), 40_000);
+        assert_same(&rt, card.to.len(), 40_000);
     }
     Ok(())
 }

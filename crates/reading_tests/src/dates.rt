@@ -1,4 +1,5 @@
 //! Bodies of Date fields, and the moments that they name.
+use crate::asserts::assert_same;
 use mail_date::moment;
 use std::test::Fail;
 
@@ -35,8 +36,8 @@ const MOMENTS: [(&str, Option<u64>); 22] = [
 
 #[test]
 fn each_body_names_its_moment(rt: HostRuntime) -> Result<(), Fail> {
-    for (body, expected) in MOMENTS {
-        assert_eq!(rt; moment(body.as_bytes()), expected);
+    for &(body, expected) in &MOMENTS {
+        assert_same(&rt, moment(body.as_bytes()), expected);
     }
     Ok(())
 }

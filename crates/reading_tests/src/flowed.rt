@@ -1,4 +1,5 @@
 //! Flowed texts, what they are when they are joined, and the text above a signature.
+use crate::asserts::assert_same;
 use flowed_text::{unflow, user_text};
 use kit::{Memory, Text};
 use std::alloc::Global;
@@ -66,9 +67,9 @@ fn text_of(alloc: Global, text: &str) -> Result<Text, Memory> {
 #[test]
 fn soft_lines_are_joined(rt: HostRuntime) -> Result<(), Fail> {
     let alloc = rt.alloc();
-    for (text, delsp, expected) in FLOWED {
+    for &(text, delsp, expected) in &FLOWED {
         let whole = unflow(alloc, &text_of(alloc, text)?, delsp)?;
-        assert_eq!(rt; whole.as_str(), expected);
+        assert_same(&rt, whole.as_str(), expected);
     }
     Ok(())
 }
@@ -76,9 +77,9 @@ fn soft_lines_are_joined(rt: HostRuntime) -> Result<(), Fail> {
 #[test]
 fn the_text_ends_above_the_signature(rt: HostRuntime) -> Result<(), Fail> {
     let alloc = rt.alloc();
-    for (text, expected) in SIGNED {
+    for &(text, expected) in &SIGNED {
         let above = user_text(alloc, &text_of(alloc, text)?)?;
-        assert_eq!(rt; above.as_str(), expected);
+        assert_same(&rt, above.as_str(), expected);
     }
     Ok(())
 }

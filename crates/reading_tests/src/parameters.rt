@@ -1,4 +1,5 @@
 //! Content types and dispositions, with their parameters.
+use crate::asserts::assert_same;
 use kit::{Memory, Text};
 use mime_parts::{ContentType, read_content_type, read_disposition};
 use std::alloc::Global;
@@ -159,8 +160,8 @@ fn long_body(alloc: Global) -> Result<String, Memory> {
 #[test]
 fn types_and_their_parameters(rt: HostRuntime) -> Result<(), Fail> {
     let alloc = rt.alloc();
-    for (body, expected) in TYPES {
-        assert_eq!(rt; listed_type(alloc, body)?.as_str(), expected);
+    for &(body, expected) in &TYPES {
+        assert_same(&rt, listed_type(alloc, body)?.as_str(), expected);
     }
     Ok(())
 }
@@ -168,8 +169,8 @@ fn types_and_their_parameters(rt: HostRuntime) -> Result<(), Fail> {
 #[test]
 fn dispositions_and_their_file_names(rt: HostRuntime) -> Result<(), Fail> {
     let alloc = rt.alloc();
-    for (body, expected) in DISPOSITIONS {
-        assert_eq!(rt; listed_disposition(alloc, body)?.as_str(), expected);
+    for &(body, expected) in &DISPOSITIONS {
+        assert_same(&rt, listed_disposition(alloc, body)?.as_str(), expected);
     }
     Ok(())
 }
@@ -178,7 +179,7 @@ fn dispositions_and_their_file_names(rt: HostRuntime) -> Result<(), Fail> {
 fn a_parameter_by_its_name(rt: HostRuntime) -> Result<(), Fail> {
     let body = "text/plain; Format=flowed";
     let format = value_of(rt.alloc(), body, b"FORMAT")?.ok_or("no format")?;
-    assert_eq!(rt; format.as_str(), "flowed");
+    assert_same(&rt, format.as_str(), "flowed");
     Ok(())
 }
 
@@ -193,6 +194,6 @@ fn a_parameter_that_is_not_there(rt: HostRuntime) -> Result<(), Fail> {
 fn many_sections_and_names(rt: HostRuntime) -> Result<(), Fail> {
     let body = long_body(rt.alloc())?;
     let whole = value_of(rt.alloc(), body.as_str(), b"c")?.ok_or("no value")?;
-    assert_eq!(rt; whole.bytes().len(), 4_000);
+    assert_same(&rt, whole.bytes().len(), 4_000);
     Ok(())
 }

@@ -1,4 +1,5 @@
 //! Trees of parts: an alternative with an attachment, cases of RFC 2046, and mails that are made to be costly.
+use crate::asserts::assert_same;
 use kit::Memory;
 use mail_headers::read_header;
 use mime_parts::{PartNode, PartTree, parts};
@@ -185,7 +186,7 @@ fn two_wide(alloc: Global, width: usize) -> Result<String, Memory> {
 #[test]
 fn trees_of_mails(rt: HostRuntime) -> Result<(), Fail> {
     let alloc = rt.alloc();
-    for (mail, expected) in TREES {
+    for &(mail, expected) in &TREES {
         assert!(rt; listed_tree(alloc, mail.as_bytes())?.as_slice() == expected.as_bytes());
     }
     Ok(())
@@ -198,7 +199,7 @@ fn five_nodes_and_an_attachment(rt: HostRuntime) -> Result<(), Fail> {
     let header = read_header(alloc, mail)?;
     let body = &mail[header.body_at()..];
     let tree = parts(alloc, &header, body)?;
-    assert_eq!(rt; tree.nodes.len(), 5);
+    assert_same(&rt, tree.nodes.len(), 5);
     let plan = tree.nodes.last().ok_or("no node")?;
     assert!(rt; plan.leaf && plan.attach);
     let content = decode_body(alloc, plan.encoding, content_of(body, plan))?;
@@ -210,7 +211,7 @@ fn five_nodes_and_an_attachment(rt: HostRuntime) -> Result<(), Fail> {
 fn twenty_multiparts_in_one_another(rt: HostRuntime) -> Result<(), Fail> {
     let mail = nested(rt.alloc(), 20)?;
     let tree = tree_of(rt.alloc(), mail.as_bytes())?;
-    assert_eq!(rt; tree.nodes.len(), 17);
+    assert_same(&rt, tree.nodes.len(), 17);
     for (depth, node) in tree.nodes.iter().enumerate() {
         assert!(rt; node.depth as usize == depth && node.leaf == (depth == 16));
     }
@@ -220,7 +221,11 @@ fn twenty_multiparts_in_one_another(rt: HostRuntime) -> Result<(), Fail> {
 #[test]
 fn parts_up_to_the_most(rt: HostRuntime) -> Result<(), Fail> {
     let mail = wide(rt.alloc(), 999)?;
-    assert_eq!(rt; tree_of(rt.alloc(), mail.as_bytes())?.nodes.len(), 1_000);
+    assert_same(
+        &rt,
+        tree_of(rt.alloc(), mail.as_bytes())?.nodes.len(),
+        1_000,
+    );
     Ok(())
 }
 
@@ -228,7 +233,7 @@ fn parts_up_to_the_most(rt: HostRuntime) -> Result<(), Fail> {
 fn parts_beyond_the_most(rt: HostRuntime) -> Result<(), Fail> {
     let mail = wide(rt.alloc(), 1_200)?;
     let tree = tree_of(rt.alloc(), mail.as_bytes())?;
-    assert_eq!(rt; tree.nodes.len(), 1);
+    assert_same(&rt, tree.nodes.len(), 1);
     assert!(rt; tree.nodes.first().ok_or("no node")?.leaf);
     Ok(())
 }
@@ -237,7 +242,7 @@ fn parts_beyond_the_most(rt: HostRuntime) -> Result<(), Fail> {
 fn what_was_opened_before_counts(rt: HostRuntime) -> Result<(), Fail> {
     let mail = two_wide(rt.alloc(), 600)?;
     let tree = tree_of(rt.alloc(), mail.as_bytes())?;
-    assert_eq!(rt; tree.nodes.len(), 603);
+    assert_same(&rt, tree.nodes.len(), 603);
     assert!(rt; tree.nodes.last().ok_or("no node")?.leaf);
     Ok(())
 }

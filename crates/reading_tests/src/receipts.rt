@@ -1,4 +1,5 @@
 //! Receipts: the example of RFC 3798, and fields that say nothing of a mail that was displayed.
+use crate::asserts::assert_row;
 use kit::Memory;
 use part_read::read_receipt;
 use std::alloc::Global;
@@ -97,9 +98,9 @@ fn read_back(alloc: Global, bytes: &[u8]) -> Result<Vec<u8>, Memory> {
 #[test]
 fn ids_of_displayed_mails(rt: HostRuntime) -> Result<(), Fail> {
     let alloc = rt.alloc();
-    for (bytes, id) in RECEIPTS {
+    for &(bytes, id) in &RECEIPTS {
         let found = read_back(alloc, bytes.as_bytes())?;
-        assert_eq!(rt; found.as_slice(), id.as_bytes(), "receipt of {bytes:?}");
+        assert_row(&rt, bytes, found.as_slice(), id.as_bytes());
     }
     Ok(())
 }

@@ -1,6 +1,7 @@
 //! Steps of a steps file, however the source gives its bytes.
 ghost use Rattle.std.specs.Prelude.{◌≡◌, false};
 
+use crate::asserts::assert_same;
 use outside::{MemorySource, QuietSource, Source};
 use source_buffer::BufferFault;
 use std::alloc::Global;
@@ -71,12 +72,12 @@ fn answers<S: Source>(
 #[test]
 fn steps_come_alike_in_chunks_of_any_size(rt: HostRuntime) -> Result<(), Fail> {
     let alloc = rt.alloc();
-    for (text, expected) in FILES {
+    for &(text, expected) in &FILES {
         for chunk_len in [1, 2, 5, 22, 23, 64] {
             let mut source = QuietSource::new(text.as_bytes().to_vec(alloc)?);
             let mut reader = StepsReader::new(alloc, chunk_len, 1000)?;
             let found = answers(alloc, &mut reader, &mut source)?;
-            assert_eq!(rt; found.as_str(), expected);
+            assert_same(&rt, found.as_str(), expected);
         }
     }
     Ok(())
@@ -91,7 +92,7 @@ fn a_reader_is_refused_after_the_steps_before(rt: HostRuntime) -> Result<(), Fai
         let mut source = MemorySource::new(bytes, [fails].to_vec(alloc)?);
         let mut reader = StepsReader::new(alloc, 7, budget)?;
         let found = answers(alloc, &mut reader, &mut source)?;
-        assert_eq!(rt; found.as_str(), expected);
+        assert_same(&rt, found.as_str(), expected);
     }
     Ok(())
 }
@@ -101,9 +102,9 @@ fn steps_come_from_where_a_skip_ended(rt: HostRuntime) -> Result<(), Fail> {
     let alloc = rt.alloc();
     let mut source = QuietSource::new(b"next\nseen 1\n".as_slice().to_vec(alloc)?);
     let mut reader = StepsReader::new(alloc, 4, 1000)?;
-    assert_eq!(rt; reader.skip(&mut source, 5), Ok(5));
-    assert_eq!(rt; reader.place(), 5);
+    assert_same(&rt, reader.skip(&mut source, 5), Ok(5));
+    assert_same(&rt, reader.place(), 5);
     let found = answers(alloc, &mut reader, &mut source)?;
-    assert_eq!(rt; found.as_str(), "Seen(1)|12 end");
+    assert_same(&rt, found.as_str(), "Seen(1)|12 end");
     Ok(())
 }

@@ -1,4 +1,5 @@
 //! Charsets, transfer encodings and encoded words.
+use crate::asserts::{assert_row, assert_same};
 use encoded_words::decode_words;
 use kit::{Charset, charset_of, to_text};
 use std::test::Fail;
@@ -70,9 +71,9 @@ const WORDS: [(&str, &str); 13] = [
 
 #[test]
 fn texts_in_charsets(rt: HostRuntime) -> Result<(), Fail> {
-    for (name, bytes, wanted) in TEXTS {
+    for &(name, bytes, wanted) in &TEXTS {
         let text = to_text(rt.alloc(), charset_of(name.as_bytes()), bytes.as_bytes())?;
-        assert_eq!(rt; text.as_str(), wanted);
+        assert_same(&rt, text.as_str(), wanted);
     }
     Ok(())
 }
@@ -80,38 +81,38 @@ fn texts_in_charsets(rt: HostRuntime) -> Result<(), Fail> {
 #[test]
 fn a_byte_of_latin1(rt: HostRuntime) -> Result<(), Fail> {
     let text = to_text(rt.alloc(), Charset::Latin1, &[233])?;
-    assert_eq!(rt; text.as_str(), "é");
+    assert_same(&rt, text.as_str(), "é");
     Ok(())
 }
 
 #[test]
 fn a_byte_that_is_no_ascii(rt: HostRuntime) -> Result<(), Fail> {
     let text = to_text(rt.alloc(), Charset::Ascii, &[233])?;
-    assert_eq!(rt; text.as_str(), "\u{FFFD}");
+    assert_same(&rt, text.as_str(), "\u{FFFD}");
     Ok(())
 }
 
 #[test]
 fn names_of_encodings(rt: HostRuntime) {
-    for (body, wanted) in NAMES {
-        assert_eq!(rt; encoding_of(body.as_bytes()), wanted);
+    for &(body, wanted) in &NAMES {
+        assert_same(&rt, encoding_of(body.as_bytes()), wanted);
     }
 }
 
 #[test]
 fn bodies_in_base64(rt: HostRuntime) -> Result<(), Fail> {
-    for (body, wanted) in BASE64 {
+    for &(body, wanted) in &BASE64 {
         let decoded = decode_body(rt.alloc(), Encoding::Base64, body.as_bytes())?;
-        assert_eq!(rt; decoded.as_slice(), wanted.as_bytes());
+        assert_same(&rt, decoded.as_slice(), wanted.as_bytes());
     }
     Ok(())
 }
 
 #[test]
 fn bodies_in_quoted_printable(rt: HostRuntime) -> Result<(), Fail> {
-    for (body, wanted) in QUOTED {
+    for &(body, wanted) in &QUOTED {
         let decoded = decode_body(rt.alloc(), Encoding::Quoted, body.as_bytes())?;
-        assert_eq!(rt; decoded.as_slice(), wanted.as_bytes());
+        assert_same(&rt, decoded.as_slice(), wanted.as_bytes());
     }
     Ok(())
 }
@@ -119,38 +120,43 @@ fn bodies_in_quoted_printable(rt: HostRuntime) -> Result<(), Fail> {
 #[test]
 fn a_plain_body(rt: HostRuntime) -> Result<(), Fail> {
     let decoded = decode_body(rt.alloc(), Encoding::Plain, b"a=3D \r\n")?;
-    assert_eq!(rt; decoded.as_slice(), b"a=3D \r\n".as_slice());
+    assert_same(&rt, decoded.as_slice(), b"a=3D \r\n".as_slice());
     Ok(())
 }
 
 #[test]
 fn lengths_of_decoded_bodies(rt: HostRuntime) -> Result<(), Fail> {
     let alloc = rt.alloc();
-    for (body, wanted) in BASE64 {
+    for &(body, wanted) in &BASE64 {
         let len = decoded_len(alloc, Encoding::Base64, body.as_bytes())?;
-        assert_eq!(rt; len, wanted.len(), "{body}");
+        assert_row(&rt, body, len, wanted.len());
     }
-    assert_eq!(rt; decoded_len(alloc, Encoding::Base64, &[b'A'; 602])?, 451);
-    assert_eq!(rt;
-        decoded_len(alloc, Encoding::Quoted, b"=e2=82=ac\t\r\n")?,
-        4
+    assert_same(
+        &rt,
+        decoded_len(alloc, Encoding::Base64, &[b'A'; 602])?,
+        451,
     );
-    assert_eq!(rt; decoded_len(alloc, Encoding::Plain, b"a=3D \r\n")?, 7);
+    assert_same(
+        &rt,
+        decoded_len(alloc, Encoding::Quoted, b"=e2=82=ac\t\r\n")?,
+        4,
+    );
+    assert_same(&rt, decoded_len(alloc, Encoding::Plain, b"a=3D \r\n")?, 7);
     Ok(())
 }
 
 #[test]
 fn escapes_of_a_word(rt: HostRuntime) -> Result<(), Fail> {
     let name = unescaped(rt.alloc(), b"na=C3=AFve=.txt")?;
-    assert_eq!(rt; name.as_slice(), "naïve=.txt".as_bytes());
+    assert_same(&rt, name.as_slice(), "naïve=.txt".as_bytes());
     Ok(())
 }
 
 #[test]
 fn bodies_with_encoded_words(rt: HostRuntime) -> Result<(), Fail> {
-    for (body, wanted) in WORDS {
+    for &(body, wanted) in &WORDS {
         let text = decode_words(rt.alloc(), body.as_bytes())?;
-        assert_eq!(rt; text.as_str(), wanted);
+        assert_same(&rt, text.as_str(), wanted);
     }
     Ok(())
 }

@@ -1,4 +1,5 @@
 //! Updates of an app: their members, numbers of all kinds, what is no JSON or no list of objects, and long ones.
+use crate::asserts::{assert_row, assert_same};
 use card_type::{Payload, Update};
 use kit::{Memory, Text};
 use part_read::{UpdateFault, read_updates};
@@ -150,9 +151,9 @@ fn nested(alloc: Global, levels: usize) -> Result<String, Memory> {
 #[test]
 fn updates_of_texts(rt: HostRuntime) -> Result<(), Fail> {
     let alloc = rt.alloc();
-    for (text, expected) in UPDATES {
+    for &(text, expected) in &UPDATES {
         let found = read_back(alloc, text.as_bytes())?;
-        assert_eq!(rt; found.as_str(), expected, "updates of {text:?}");
+        assert_row(&rt, text, found.as_str(), expected);
     }
     Ok(())
 }
@@ -160,7 +161,7 @@ fn updates_of_texts(rt: HostRuntime) -> Result<(), Fail> {
 #[test]
 fn bytes_that_are_no_text(rt: HostRuntime) -> Result<(), Fail> {
     let found = read_back(rt.alloc(), b"{\"updates\":[{\"info\":\"\xFF\"}]}")?;
-    assert_eq!(rt; found.as_str(), "NoJson");
+    assert_same(&rt, found.as_str(), "NoJson");
     Ok(())
 }
 
@@ -169,9 +170,9 @@ fn bytes_that_are_no_text(rt: HostRuntime) -> Result<(), Fail> {
 fn updates_of_127_levels_and_of_128(rt: HostRuntime) -> Result<(), Fail> {
     let alloc = rt.alloc();
     let deep = read_back(alloc, nested(alloc, 124)?.as_bytes())?;
-    assert_eq!(rt; deep.len(), 249);
+    assert_same(&rt, deep.len(), 249);
     let too_deep = read_back(alloc, nested(alloc, 125)?.as_bytes())?;
-    assert_eq!(rt; too_deep.as_str(), "NoJson");
+    assert_same(&rt, too_deep.as_str(), "NoJson");
     Ok(())
 }
 
@@ -186,6 +187,6 @@ fn long_lists_are_read(rt: HostRuntime) -> Result<(), Fail> {
     )?;
     text.push_str("]}")?;
     let found = read_updates(alloc, text.as_bytes())?;
-    assert_eq!(rt; found.len(), 20_001);
+    assert_same(&rt, found.len(), 20_001);
     Ok(())
 }

@@ -5,6 +5,7 @@ ghost use Rattle.outside.specs.Places.{Places};
 ghost use Rattle.state_store.specs.Stored.{IsStored};
 ghost use Rattle.keeper.specs.Keeping.{IsKept};
 
+use crate::asserts::assert_same;
 use keeper::{KeepFault, Keeper};
 use kit::{Addr, Steps};
 use mailbox_model::Change;
@@ -195,16 +196,17 @@ fn sizes(shelf: &MemoryShelf) -> (usize, usize, usize) {
 fn the_first_commit_saves_and_the_others_append(rt: HostRuntime) -> Result<(), Fail> {
     let alloc = rt.alloc();
     let mut shelf = shelf_of(alloc, &[], &[], None)?;
-    assert_eq!(rt; commit(alloc, &mut shelf, (2, 0, 0))?, (2, Ended::Well));
-    assert_eq!(rt; sizes(&shelf), (SLOT.len(), 0, 0));
-    assert_eq!(rt;
+    assert_same(&rt, commit(alloc, &mut shelf, (2, 0, 0))?, (2, Ended::Well));
+    assert_same(&rt, sizes(&shelf), (SLOT.len(), 0, 0));
+    assert_same(
+        &rt,
         commit(alloc, &mut shelf, (1, 255, 256))?,
-        (514, Ended::Well)
+        (514, Ended::Well),
     );
-    assert_eq!(rt; sizes(&shelf), (SLOT.len(), 0, 3 * 39 + 512 * 9));
-    assert_eq!(rt; shelf.bytes(Place::A), SLOT);
-    assert_eq!(rt; shelf.bytes(Place::T).get(..48), Some(GROUP));
-    assert_eq!(rt; find(alloc, ME, &mut shelf)?, (514, Ended::Well));
+    assert_same(&rt, sizes(&shelf), (SLOT.len(), 0, 3 * 39 + 512 * 9));
+    assert_same(&rt, shelf.bytes(Place::A), SLOT);
+    assert_same(&rt, shelf.bytes(Place::T).get(..48), Some(GROUP));
+    assert_same(&rt, find(alloc, ME, &mut shelf)?, (514, Ended::Well));
     Ok(())
 }
 
@@ -212,11 +214,12 @@ fn the_first_commit_saves_and_the_others_append(rt: HostRuntime) -> Result<(), F
 fn no_more_than_256_changes_wait(rt: HostRuntime) -> Result<(), Fail> {
     let alloc = rt.alloc();
     let mut shelf = shelf_of(alloc, &[], &[], None)?;
-    assert_eq!(rt;
+    assert_same(
+        &rt,
         commit(alloc, &mut shelf, (256, 257, 0))?,
-        (256, Ended::Full)
+        (256, Ended::Full),
     );
-    assert_eq!(rt; find(alloc, ME, &mut shelf)?, (256, Ended::Well));
+    assert_same(&rt, find(alloc, ME, &mut shelf)?, (256, Ended::Well));
     Ok(())
 }
 
@@ -234,7 +237,7 @@ fn next_count(count: u64) -> u64 {
 fn leaves_old_or_new(alloc: Global, stop: u64) -> Result<bool, Fail> {
     let mut shelf = shelf_of(alloc, &[], &[], Some(stop))?;
     let (acknowledged, _) = commit(alloc, &mut shelf, (1, 2, 1))?;
-    for crash in CRASHES {
+    for &crash in &CRASHES {
         let mut left = shelf.crash(crash)?;
         let (count, ended) = find(alloc, ME, &mut left)?;
         if ended != Ended::Well || count != acknowledged && count != next_count(acknowledged) {
@@ -260,9 +263,9 @@ fn three_commits_are_stopped_at_each_call(rt: HostRuntime) -> Result<(), Fail> {
 fn the_state_of_another_address_is_not_opened(rt: HostRuntime) -> Result<(), Fail> {
     let alloc = rt.alloc();
     let mut shelf = shelf_of(alloc, SLOT, GROUP, None)?;
-    assert_eq!(rt; find(alloc, ME, &mut shelf)?, (3, Ended::Well));
-    assert_eq!(rt; find(alloc, BOB, &mut shelf)?, (0, Ended::IsMine));
-    assert_eq!(rt; sizes(&shelf), (SLOT.len(), 0, GROUP.len()));
+    assert_same(&rt, find(alloc, ME, &mut shelf)?, (3, Ended::Well));
+    assert_same(&rt, find(alloc, BOB, &mut shelf)?, (0, Ended::IsMine));
+    assert_same(&rt, sizes(&shelf), (SLOT.len(), 0, GROUP.len()));
     Ok(())
 }
 
@@ -271,31 +274,29 @@ fn where_nothing_is_kept_any_address_is_opened(rt: HostRuntime) -> Result<(), Fa
     let alloc = rt.alloc();
     for me in [ME, BOB] {
         let mut shelf = shelf_of(alloc, &[], &[], None)?;
-        assert_eq!(rt; find(alloc, me, &mut shelf)?, (0, Ended::Well));
+        assert_same(&rt, find(alloc, me, &mut shelf)?, (0, Ended::Well));
     }
     Ok(())
+}
+
+/// How a slot in A and a group in T are opened.
+fn find_in(alloc: Global, me: &[u8], slot: &[u8], group: &[u8]) -> Result<(u64, Ended), Fail> {
+    let mut shelf = shelf_of(alloc, slot, group, None)?;
+    find(alloc, me, &mut shelf)
 }
 
 #[test]
 fn damage_has_its_place_and_its_offset(rt: HostRuntime) -> Result<(), Fail> {
     let alloc = rt.alloc();
     let slot = with_byte(alloc, SLOT, 24, b'2')?;
+    let in_slot = (0, Ended::Damaged(Place::A, 17));
+    assert_same(&rt, find_in(alloc, ME, &slot, GROUP)?, in_slot);
     let group = with_byte(alloc, GROUP, 39, 6)?;
-    let mut bad_slot = shelf_of(alloc, &slot, GROUP, None)?;
-    let mut bad_group = shelf_of(alloc, SLOT, &group, None)?;
-    assert_eq!(rt;
-        find(alloc, ME, &mut bad_slot)?,
-        (0, Ended::Damaged(Place::A, 17))
-    );
-    assert_eq!(rt;
-        find(alloc, ME, &mut bad_group)?,
-        (0, Ended::Damaged(Place::T, 39))
-    );
     // damage comes before another address
-    assert_eq!(rt;
-        find(alloc, BOB, &mut bad_group)?,
-        (0, Ended::Damaged(Place::T, 39))
-    );
+    for &me in &[ME, BOB] {
+        let in_group = (0, Ended::Damaged(Place::T, 39));
+        assert_same(&rt, find_in(alloc, me, SLOT, &group)?, in_group);
+    }
     Ok(())
 }
 
@@ -308,10 +309,11 @@ fn a_change_without_a_place_in_the_mailbox_is_damage(rt: HostRuntime) -> Result<
     }
     let mut shelf = shelf_of(alloc, SLOT, ARRIVAL, None)?;
     let mut full_shelf = shelf_of(alloc, &full, ARRIVAL, None)?;
-    assert_eq!(rt; find(alloc, ME, &mut shelf)?, (3, Ended::Well));
-    assert_eq!(rt;
+    assert_same(&rt, find(alloc, ME, &mut shelf)?, (3, Ended::Well));
+    assert_same(
+        &rt,
         find(alloc, ME, &mut full_shelf)?,
-        (0, Ended::Damaged(Place::T, 39))
+        (0, Ended::Damaged(Place::T, 39)),
     );
     Ok(())
 }
@@ -321,7 +323,7 @@ fn a_shelf_that_fails_opens_nothing(rt: HostRuntime) -> Result<(), Fail> {
     let alloc = rt.alloc();
     for stop in 1..12 {
         let mut shelf = shelf_of(alloc, SLOT, GROUP, Some(stop))?;
-        assert_eq!(rt; find(alloc, ME, &mut shelf)?, (0, Ended::Disk));
+        assert_same(&rt, find(alloc, ME, &mut shelf)?, (0, Ended::Disk));
     }
     Ok(())
 }

@@ -5,6 +5,7 @@ ghost use Rattle.outside.specs.Places.{Places};
 ghost use Rattle.state_store.specs.Stored.{IsStored};
 ghost use Rattle.keeper.specs.Keeping.{IsKept};
 
+use crate::asserts::assert_same;
 use crate::commits::{BOB, CALLS, GROUP, ME, SLOT, shelf_of};
 use crate::rows::mbox_of;
 use crate::runs::{NEVER, empty_shelf, source};
@@ -330,7 +331,7 @@ fn well(standing: Standing) -> Followed {
 
 /// Whether each crash leaves what a follower opens that stands there.
 fn is_left(alloc: Global, shelf: &MemoryShelf, standing: Standing) -> Result<bool, Fail> {
-    for crash in CRASHES {
+    for &crash in &CRASHES {
         if find(alloc, ME, &mut shelf.crash(crash)?)? != Ok(standing) {
             return Ok(false);
         }
@@ -348,9 +349,9 @@ fn each_change_that_is_committed_is_found(rt: HostRuntime) -> Result<(), Fail> {
         let standing = standing_after(alloc, u64::from(made), mails, (0, ""))?;
         let mut shelf = empty_shelf(alloc)?;
         let followed = follow(alloc, &mut all_files(alloc)?, &mut shelf, first)?;
-        assert_eq!(rt; followed, well(standing));
+        assert_same(&rt, followed, well(standing));
         assert!(rt; is_left(alloc, &shelf, standing)?);
-        assert_eq!(rt; find(alloc, ME, &mut shelf)?, Ok(standing));
+        assert_same(&rt, find(alloc, ME, &mut shelf)?, Ok(standing));
     }
     Ok(())
 }
@@ -363,7 +364,7 @@ fn a_turn_at_the_end_of_a_file_makes_no_change(rt: HostRuntime) -> Result<(), Fa
         (&[Next::Mail; 4], 3, 3, (0, "")),
         (&[Next::Line; 3], 2, 1, (2, LINES)),
     ];
-    for (changes, made, mails, lines) in cases {
+    for &(changes, made, mails, lines) in &cases {
         let mut shelf = empty_shelf(alloc)?;
         let followed = follow(alloc, &mut all_files(alloc)?, &mut shelf, &[changes])?;
         let wanted = Followed {
@@ -374,8 +375,12 @@ fn a_turn_at_the_end_of_a_file_makes_no_change(rt: HostRuntime) -> Result<(), Fa
             }),
             ended: Ok(Turned::End),
         };
-        assert_eq!(rt; followed, wanted);
-        assert_eq!(rt; find(alloc, ME, &mut shelf)?, Ok(standing_at(alloc, 0)?));
+        assert_same(&rt, followed, wanted);
+        assert_same(
+            &rt,
+            find(alloc, ME, &mut shelf)?,
+            Ok(standing_at(alloc, 0)?),
+        );
     }
     Ok(())
 }
@@ -437,15 +442,19 @@ fn a_commit_is_due_where_256_changes_wait(rt: HostRuntime) -> Result<(), Fail> {
         (512, 256, 256),
         (513, 512, 1),
     ];
-    for (made, kept, pending) in cases {
+    for &(made, kept, pending) in &cases {
         let mut shelf = empty_shelf(alloc)?;
         let standing = pass(alloc, &mut shelf, made)?;
         let wanted = Standing {
             pending,
             ..standing_at(alloc, made)?
         };
-        assert_eq!(rt; standing, wanted);
-        assert_eq!(rt; find(alloc, ME, &mut shelf)?, Ok(standing_at(alloc, kept)?));
+        assert_same(&rt, standing, wanted);
+        assert_same(
+            &rt,
+            find(alloc, ME, &mut shelf)?,
+            Ok(standing_at(alloc, kept)?),
+        );
     }
     Ok(())
 }
@@ -467,7 +476,7 @@ fn the_script_is_followed_to_each_commit(rt: HostRuntime) -> Result<(), Fail> {
         let mut shelf = empty_shelf(alloc)?;
         let first = SCRIPT.get(..parts).ok_or("too many")?;
         let followed = follow(alloc, &mut all_files(alloc)?, &mut shelf, first)?;
-        assert_eq!(rt; followed, well(kept_after(alloc, count)?));
+        assert_same(&rt, followed, well(kept_after(alloc, count)?));
     }
     Ok(())
 }
@@ -499,7 +508,7 @@ fn goes_on(alloc: Global, left: &mut MemoryShelf, acknowledged: u64) -> Result<b
 fn leaves_old_or_new(alloc: Global, stop: u64) -> Result<bool, Fail> {
     let mut shelf = shelf_of(alloc, &[], &[], Some(stop))?;
     let followed = follow(alloc, &mut all_files(alloc)?, &mut shelf, &SCRIPT)?;
-    for crash in CRASHES {
+    for &crash in &CRASHES {
         if !goes_on(alloc, &mut shelf.crash(crash)?, followed.acknowledged)? {
             return Ok(false);
         }
@@ -544,48 +553,81 @@ fn is_refused(
     )
 }
 
+/// A shelf over which the script was followed to its end.
+fn followed_shelf(alloc: Global) -> Result<MemoryShelf, Fail> {
+    let mut shelf = empty_shelf(alloc)?;
+    if follow(alloc, &mut all_files(alloc)?, &mut shelf, &SCRIPT)? == well(kept_after(alloc, 5)?) {
+        Ok(shelf)
+    } else {
+        Err(Fail::from("not followed to its end"))
+    }
+}
+
+/// Whether a file that is opened over such a shelf is short.
+fn is_short(alloc: Global, mbox: &str, lines: &str, input: Input) -> Result<bool, Fail> {
+    let mut shelf = followed_shelf(alloc)?;
+    let mut short = files_of(alloc, (mbox, NEVER), (lines, NEVER))?;
+    is_refused(alloc, &mut shelf, &mut short, &[], RunFault::Short(input))
+}
+
 #[test]
 fn a_file_that_was_cut_by_a_byte_is_short(rt: HostRuntime) -> Result<(), Fail> {
     let alloc = rt.alloc();
-    let mbox = mbox_of(alloc, &[M1, M2])?;
-    let mut cut = mbox_of(alloc, &[M1, M2])?;
-    cut.pop();
-    let kept = kept_after(alloc, 5)?;
-    let mut shelf = empty_shelf(alloc)?;
-    let followed = follow(alloc, &mut all_files(alloc)?, &mut shelf, &SCRIPT)?;
-    assert_eq!(rt; followed, well(kept));
-    let cases = [
-        (cut.as_str(), LINES, Input::Mbox),
-        (mbox.as_str(), "seen 1\nnext", Input::Steps),
-    ];
-    for (mbox, lines, input) in cases {
-        let mut short = files_of(alloc, (mbox, NEVER), (lines, NEVER))?;
-        let why = RunFault::Short(input);
-        assert!(rt; is_refused(alloc, &mut shelf, &mut short, &[], why)?);
-    }
-    let mut whole = files_of(alloc, (mbox.as_str(), NEVER), (LINES, NEVER))?;
-    assert_eq!(rt; follow(alloc, &mut whole, &mut shelf, &[])?, well(kept));
+    let mut mbox = mbox_of(alloc, &[M1, M2])?;
+    assert!(rt; is_short(alloc, mbox.as_str(), "seen 1\nnext", Input::Steps)?);
+    mbox.pop();
+    assert!(rt; is_short(alloc, mbox.as_str(), LINES, Input::Mbox)?);
     Ok(())
 }
 
 #[test]
-fn another_address_and_damage_are_not_opened(rt: HostRuntime) -> Result<(), Fail> {
+fn files_that_were_followed_are_opened_again(rt: HostRuntime) -> Result<(), Fail> {
+    let alloc = rt.alloc();
+    let mut shelf = followed_shelf(alloc)?;
+    let followed = follow(alloc, &mut all_files(alloc)?, &mut shelf, &[])?;
+    assert_same(&rt, followed, well(kept_after(alloc, 5)?));
+    Ok(())
+}
+
+/// How a slot in A and a group in T are opened.
+fn find_in(
+    alloc: Global,
+    me: &[u8],
+    slot: &[u8],
+    group: &[u8],
+) -> Result<Result<Standing, RunFault>, Fail> {
+    let mut shelf = shelf_of(alloc, slot, group, None)?;
+    find(alloc, me, &mut shelf)
+}
+
+#[test]
+fn another_address_is_not_opened(rt: HostRuntime) -> Result<(), Fail> {
+    let alloc = rt.alloc();
+    let standing = standing_at(alloc, 3)?;
+    assert_same(&rt, find_in(alloc, ME, SLOT, GROUP)?, Ok(standing));
+    let me = Addr::read(alloc, ME)?.ok_or("no address")?;
+    assert_same(
+        &rt,
+        find_in(alloc, BOB, SLOT, GROUP)?,
+        Err(RunFault::OtherMe(me)),
+    );
+    Ok(())
+}
+
+#[test]
+fn damage_is_not_opened(rt: HostRuntime) -> Result<(), Fail> {
     let alloc = rt.alloc();
     let slot = with_byte(alloc, SLOT, 24, b'2')?;
-    let group = with_byte(alloc, GROUP, 39, 6)?;
-    let mut whole = shelf_of(alloc, SLOT, GROUP, None)?;
-    let mut bad_slot = shelf_of(alloc, &slot, GROUP, None)?;
-    let mut bad_group = shelf_of(alloc, SLOT, &group, None)?;
-    let me = Addr::read(alloc, ME)?.ok_or("no address")?;
-    assert_eq!(rt; find(alloc, ME, &mut whole)?, Ok(standing_at(alloc, 3)?));
-    assert_eq!(rt; find(alloc, BOB, &mut whole)?, Err(RunFault::OtherMe(me)));
-    assert_eq!(rt;
-        find(alloc, ME, &mut bad_slot)?,
-        Err(RunFault::Damaged(Place::A, 17))
+    assert_same(
+        &rt,
+        find_in(alloc, ME, &slot, GROUP)?,
+        Err(RunFault::Damaged(Place::A, 17)),
     );
-    assert_eq!(rt;
-        find(alloc, ME, &mut bad_group)?,
-        Err(RunFault::Damaged(Place::T, 39))
+    let group = with_byte(alloc, GROUP, 39, 6)?;
+    assert_same(
+        &rt,
+        find_in(alloc, ME, SLOT, &group)?,
+        Err(RunFault::Damaged(Place::T, 39)),
     );
     Ok(())
 }
@@ -601,7 +643,7 @@ fn lines_that_cannot_be_followed_are_refused(rt: HostRuntime) -> Result<(), Fail
         ("next\nnext\n", &[Next::Line, Next::Line], 2),
     ];
     let mbox = mbox_of(alloc, &[M1])?;
-    for (lines, changes, number) in cases {
+    for &(lines, changes, number) in &cases {
         let mut files = files_of(alloc, (mbox.as_str(), NEVER), (lines, NEVER))?;
         let mut shelf = shelf_of(alloc, SLOT, GROUP, None)?;
         let why = RunFault::Steps(number);
@@ -624,7 +666,7 @@ fn files_that_fail_are_refused(rt: HostRuntime) -> Result<(), Fail> {
         (NEVER, 1, &[Next::Mail, Next::Line], Input::Steps),
     ];
     let mbox = mbox_of(alloc, &MAILS)?;
-    for (mbox_fails, lines_fail, changes, input) in cases {
+    for &(mbox_fails, lines_fail, changes, input) in &cases {
         let mut files = files_of(alloc, (mbox.as_str(), mbox_fails), ("next\n", lines_fail))?;
         let mut shelf = shelf_of(alloc, SLOT, GROUP, None)?;
         let why = RunFault::Read(input);
@@ -639,11 +681,11 @@ fn a_shelf_that_fails_keeps_nothing(rt: HostRuntime) -> Result<(), Fail> {
     let mut shelf = shelf_of(alloc, &[], &[], Some(FIRST_WRITE))?;
     let followed = follow(alloc, &mut all_files(alloc)?, &mut shelf, &SCRIPT)?;
     let standing = followed.standing.ok_or("not opened")?;
-    assert_eq!(rt; followed.ended, Err(RunFault::Disk));
-    assert_eq!(rt; followed.acknowledged, 0);
+    assert_same(&rt, followed.ended, Err(RunFault::Disk));
+    assert_same(&rt, followed.acknowledged, 0);
     assert!(rt; standing.failed);
     // that was its last call
-    assert_eq!(rt; first_write(&shelf), shelf.calls().last().copied());
+    assert_same(&rt, first_write(&shelf), shelf.calls().last().copied());
     for place in [Place::A, Place::B, Place::T] {
         assert!(rt; shelf.bytes(place).is_empty());
     }
@@ -656,7 +698,7 @@ fn a_shelf_that_fails_is_not_opened(rt: HostRuntime) -> Result<(), Fail> {
     let alloc = rt.alloc();
     for stop in 1..12 {
         let mut shelf = shelf_of(alloc, SLOT, GROUP, Some(stop))?;
-        assert_eq!(rt; find(alloc, ME, &mut shelf)?, Err(RunFault::Disk));
+        assert_same(&rt, find(alloc, ME, &mut shelf)?, Err(RunFault::Disk));
     }
     Ok(())
 }
@@ -683,10 +725,14 @@ fn no_change_is_made_after_2_to_the_power_of_62(rt: HostRuntime) -> Result<(), F
         let script: [&[Next]; 2] = [&[Next::Moment], &[last]];
         let followed = follow(alloc, &mut all_files(alloc)?, &mut shelf, &script)?;
         let standing = followed.standing.ok_or("not opened")?;
-        assert_eq!(rt; followed.ended, Err(RunFault::Full));
-        assert_eq!(rt; followed.acknowledged, most);
+        assert_same(&rt, followed.ended, Err(RunFault::Full));
+        assert_same(&rt, followed.acknowledged, most);
         assert!(rt; standing.failed);
-        assert_eq!(rt; find(alloc, ME, &mut shelf)?, Ok(standing_at(alloc, most)?));
+        assert_same(
+            &rt,
+            find(alloc, ME, &mut shelf)?,
+            Ok(standing_at(alloc, most)?),
+        );
     }
     Ok(())
 }

@@ -1,6 +1,7 @@
 //! The keeper over real files: a checkpoint falls due where the tail is full.
 ghost use Rattle.std.specs.Prelude.{◌≡◌, ◌<◌};
 
+use crate::asserts::assert_same;
 use crate::commits::{GROUP, ME, SLOT, commit_thrice};
 use kit::{Addr, Steps};
 use shelves::FileShelf;
@@ -92,13 +93,20 @@ fn fill<R: Files + Alloc>(
     fill_tail::<R, Brand>(alloc, rt, names, Blank::new(1))
 }
 
-#[test]
-fn commits_are_appended_until_the_tail_is_full(rt: HostRuntime) -> Result<(), Fail> {
-    let alloc = rt.alloc();
-    let temp = env::temp_dir(&rt)?;
-    let id = process::id(rt.process());
-    let folder = format!(in alloc; "{}/chats_keeper_{id}", temp.to_string_lossy())?;
-    fs::create_dir(&rt, folder.as_str())?;
+/// Removes the three files.
+fn remove_all<R: Files>(rt: &R, names: Names<'_>) -> Result<(), Fail> {
+    fs::remove_file(rt, names.a)?;
+    fs::remove_file(rt, names.b)?;
+    fs::remove_file(rt, names.t)?;
+    Ok(())
+}
+
+/// The same in a folder, from which the files are removed then.
+fn fill_in<R: Files + Alloc>(
+    alloc: Global,
+    rt: &R,
+    folder: &str,
+) -> Result<[(usize, usize, usize); 2], Fail> {
     let a = format!(in alloc; "{folder}/a")?;
     let b = format!(in alloc; "{folder}/b")?;
     let t = format!(in alloc; "{folder}/t")?;
@@ -107,12 +115,21 @@ fn commits_are_appended_until_the_tail_is_full(rt: HostRuntime) -> Result<(), Fa
         b: b.as_str(),
         t: t.as_str(),
     };
-    let [full, saved] = fill(alloc, &rt, names)?;
-    assert_eq!(rt; full, (SLOT.len(), 0, MAX_TAIL));
-    assert_eq!(rt; saved, (SLOT.len(), SLOT.len(), 0));
-    fs::remove_file(&rt, a.as_str())?;
-    fs::remove_file(&rt, b.as_str())?;
-    fs::remove_file(&rt, t.as_str())?;
+    let sizes = fill(alloc, rt, names)?;
+    remove_all(rt, names)?;
+    Ok(sizes)
+}
+
+#[test]
+fn commits_are_appended_until_the_tail_is_full(rt: HostRuntime) -> Result<(), Fail> {
+    let alloc = rt.alloc();
+    let temp = env::temp_dir(&rt)?;
+    let id = process::id(rt.process());
+    let folder = format!(in alloc; "{}/chats_keeper_{id}", temp.to_string_lossy())?;
+    fs::create_dir(&rt, folder.as_str())?;
+    let [full, saved] = fill_in(alloc, &rt, folder.as_str())?;
     fs::remove_dir(&rt, folder.as_str())?;
+    assert_same(&rt, full, (SLOT.len(), 0, MAX_TAIL));
+    assert_same(&rt, saved, (SLOT.len(), SLOT.len(), 0));
     Ok(())
 }

@@ -1,4 +1,5 @@
 //! Runs over one shelf, of which each goes on from what the one before kept: the bytes on the shelf, and what is put.
+use crate::asserts::{assert_row, assert_same};
 use crate::rows::{CHATS, COPY, MEMBERS, PARENT, Row, TIMER, mbox_of};
 use crate::runs::{
     DISK, LIST, M1, M1_LINE, NEVER, READ, ROOM, empty_shelf, ended_by, ended_over, shelf_with,
@@ -53,8 +54,8 @@ fn the_first_run_saves_an_image_of_190_bytes(rt: HostRuntime) -> Result<(), Fail
     let alloc = rt.alloc();
     let shelf = after_first_run(alloc)?;
     assert!(rt; has_first_image(alloc, &shelf)?);
-    assert_eq!(rt; shelf.bytes(Place::A).len(), 207);
-    assert_eq!(rt; shelf.bytes(Place::A).get(..17), Some(HEAD));
+    assert_same(&rt, shelf.bytes(Place::A).len(), 207);
+    assert_same(&rt, shelf.bytes(Place::A).get(..17), Some(HEAD));
     Ok(())
 }
 
@@ -63,11 +64,11 @@ fn the_second_run_appends_a_moment(rt: HostRuntime) -> Result<(), Fail> {
     let alloc = rt.alloc();
     let mut shelf = after_first_run(alloc)?;
     let (end, text) = list(alloc, &mut shelf)?;
-    assert_eq!(rt; (end, text.as_str()), (Status::Ok, M1_LINE));
-    assert_eq!(rt; shelf.bytes(Place::A).len(), 207);
-    assert_eq!(rt; shelf.bytes(Place::B).len(), 0);
-    assert_eq!(rt; shelf.bytes(Place::T), MOMENT);
-    assert_eq!(rt; shelf.bytes(Place::T).len(), 48);
+    assert_same(&rt, (end, text.as_str()), (Status::Ok, M1_LINE));
+    assert_same(&rt, shelf.bytes(Place::A).len(), 207);
+    assert_same(&rt, shelf.bytes(Place::B).len(), 0);
+    assert_same(&rt, shelf.bytes(Place::T), MOMENT);
+    assert_same(&rt, shelf.bytes(Place::T).len(), 48);
     Ok(())
 }
 
@@ -82,13 +83,14 @@ fn the_first_run_is_stopped_at_each_call_and_made_again(rt: HostRuntime) -> Resu
         } else {
             (Status::Ok, M1_LINE)
         };
-        assert_eq!(rt; (end, text.as_str()), wanted, "stopped at {stop}");
-        for crash in CRASHES {
+        assert_row(&rt, stop, (end, text.as_str()), wanted);
+        for &crash in &CRASHES {
             let (end, text) = list(alloc, &mut shelf.crash(crash)?)?;
-            assert_eq!(rt;
+            assert_row(
+                &rt,
+                (stop, crash),
                 (end, text.as_str()),
                 (Status::Ok, M1_LINE),
-                "stopped at {stop}: {crash:?}"
             );
         }
     }
@@ -123,17 +125,17 @@ fn torn(alloc: Global, stop: u64) -> Result<(Vec<u8>, Option<(u64, u64)>), Fail>
 #[test]
 fn a_gate_that_was_torn_to_1_is_closed(rt: HostRuntime) -> Result<(), Fail> {
     let (bytes, write) = torn(rt.alloc(), 10)?;
-    assert_eq!(rt; bytes.as_slice(), [1].as_slice());
-    assert_eq!(rt; write, Some((0, 1)));
+    assert_same(&rt, bytes.as_slice(), [1].as_slice());
+    assert_same(&rt, write, Some((0, 1)));
     Ok(())
 }
 
 #[test]
 fn a_gate_that_is_closed_over_a_torn_body_is_left(rt: HostRuntime) -> Result<(), Fail> {
     let (bytes, write) = torn(rt.alloc(), 14)?;
-    assert_eq!(rt; bytes.len(), 207);
-    assert_eq!(rt; bytes.get(..2), Some([0, 1].as_slice()));
-    assert_eq!(rt; write, Some((1, 8)));
+    assert_same(&rt, bytes.len(), 207);
+    assert_same(&rt, bytes.get(..2), Some([0, 1].as_slice()));
+    assert_same(&rt, write, Some((1, 8)));
     Ok(())
 }
 
@@ -146,21 +148,26 @@ fn shelf_of_slots(alloc: Global, a: &[u8], b: &[u8], tail: &[u8]) -> Result<Memo
     Ok(MemoryShelf::new(alloc, a, b, tail, ROOM, 128, fails, None)?)
 }
 
-#[test]
-fn a_group_that_a_slot_holds_already_is_skipped(rt: HostRuntime) -> Result<(), Fail> {
-    let alloc = rt.alloc();
+/// A shelf with the slots after two and after four changes, and a group that the latter holds already.
+fn shelf_with_a_held_group(alloc: Global) -> Result<MemoryShelf, Fail> {
     // The last byte of the image's count.
     let image = with_byte(alloc, M1_IMAGE, 27, 4)?;
     let first = slot(alloc, 1, 2, M1_IMAGE)?;
     let later = slot(alloc, 1, 4, &image)?;
-    let mut shelf = shelf_of_slots(alloc, &first, &later, MOMENT)?;
+    shelf_of_slots(alloc, &first, &later, MOMENT)
+}
+
+#[test]
+fn a_group_that_a_slot_holds_already_is_skipped(rt: HostRuntime) -> Result<(), Fail> {
+    let alloc = rt.alloc();
+    let mut shelf = shelf_with_a_held_group(alloc)?;
     let (end, text) = list(alloc, &mut shelf)?;
-    assert_eq!(rt; (end, text.as_str()), (Status::Ok, M1_LINE));
-    let tail = shelf.bytes(Place::T);
-    assert_eq!(rt; tail.get(..48), Some(MOMENT));
+    assert_same(&rt, (end, text.as_str()), (Status::Ok, M1_LINE));
     // The last byte of the count that it goes on from.
     let next = with_byte(alloc, MOMENT, 8, 4)?;
-    assert_eq!(rt; tail.get(48..), Some(next.as_slice()));
+    let tail = shelf.bytes(Place::T);
+    assert_same(&rt, tail.get(..48), Some(MOMENT));
+    assert_same(&rt, tail.get(48..), Some(next.as_slice()));
     Ok(())
 }
 
@@ -203,11 +210,11 @@ const LATER: [(&[&str], Status, &str, usize); 3] = [
 #[test]
 fn another_address_and_what_is_not_there(rt: HostRuntime) -> Result<(), Fail> {
     let alloc = rt.alloc();
-    for (words, status, put, tail) in LATER {
+    for &(words, status, put, tail) in &LATER {
         let mut shelf = after_first_run(alloc)?;
         let (end, text) = ended_over(alloc, words, M1, None, &mut shelf)?;
-        assert_eq!(rt; (end, text.as_str()), (status, put));
-        assert_eq!(rt; shelf.bytes(Place::T).len(), tail);
+        assert_same(&rt, (end, text.as_str()), (status, put));
+        assert_same(&rt, shelf.bytes(Place::T).len(), tail);
     }
     Ok(())
 }
@@ -219,10 +226,11 @@ fn an_mbox_that_was_shortened(rt: HostRuntime) -> Result<(), Fail> {
     for size in [50, 125] {
         let mbox = M1.get(..size).ok_or("too few")?;
         let (end, text) = ended_over(alloc, &LIST, mbox, None, &mut shelf)?;
-        assert_eq!(rt;
+        assert_row(
+            &rt,
+            size,
             (end, text.as_str()),
             (Status::Short, "chats: short mbox\n"),
-            "{size}"
         );
     }
     assert!(rt; has_first_image(alloc, &shelf)?);
@@ -236,11 +244,12 @@ fn a_slot_that_is_damaged(rt: HostRuntime) -> Result<(), Fail> {
     let slot = with_byte(alloc, shelf.bytes(Place::A), 17, 0)?;
     let mut damaged = shelf_with(alloc, &slot, NEVER, None)?;
     let (end, text) = list(alloc, &mut damaged)?;
-    assert_eq!(rt;
+    assert_same(
+        &rt,
         (end, text.as_str()),
-        (Status::Damaged, "chats: damaged a at 17\n")
+        (Status::Damaged, "chats: damaged a at 17\n"),
     );
-    assert_eq!(rt; damaged.bytes(Place::A), slot.as_slice());
+    assert_same(&rt, damaged.bytes(Place::A), slot.as_slice());
     Ok(())
 }
 
@@ -253,16 +262,16 @@ fn what_a_device_that_fails_lets_be_kept(rt: HostRuntime) -> Result<(), Fail> {
         (NEVER, 1, NEVER, Status::Read, READ, false),
         (NEVER, NEVER, 1, Status::Write, "", true),
     ];
-    for (call_fails, take_fails, put_fails, status, put, kept) in cases {
+    for &(call_fails, take_fails, put_fails, status, put, kept) in &cases {
         let mut shelf = shelf_with(alloc, &[], call_fails, None)?;
         let mut mbox = source(alloc, M1, take_fails)?;
         let mut clock = FixedClock::new(0);
         let (end, text) = ended_by(
             alloc, &LIST, &mut mbox, None, &mut shelf, &mut clock, put_fails,
         )?;
-        assert_eq!(rt; (end, text.as_str()), (status, put));
-        assert_eq!(rt; has_first_image(alloc, &shelf)?, kept);
-        assert_eq!(rt; shelf.bytes(Place::A).is_empty(), !kept);
+        assert_same(&rt, (end, text.as_str()), (status, put));
+        assert_same(&rt, has_first_image(alloc, &shelf)?, kept);
+        assert_same(&rt, shelf.bytes(Place::A).is_empty(), !kept);
     }
     Ok(())
 }
@@ -273,7 +282,7 @@ fn each_after_another<R: Abort>(rt: &R, alloc: Global, rows: &[Row]) -> Result<(
     for (mails, steps, words, put) in rows.iter().copied() {
         let mbox = mbox_of(alloc, mails)?;
         let (end, text) = ended_over(alloc, words, mbox.as_str(), steps, &mut shelf)?;
-        assert_eq!(rt; (end, text.as_str()), (Status::Ok, put));
+        assert_same(rt, (end, text.as_str()), (Status::Ok, put));
     }
     Ok(())
 }
@@ -316,9 +325,9 @@ fn a_steps_file_that_grew_or_was_shortened(rt: HostRuntime) -> Result<(), Fail> 
     let alloc = rt.alloc();
     let words = ["--me", "me@x.org", "list"];
     let mut shelf = empty_shelf(alloc)?;
-    for (steps, status, put) in LINES {
+    for &(steps, status, put) in &LINES {
         let (end, text) = ended_over(alloc, &words, M1, Some(steps), &mut shelf)?;
-        assert_eq!(rt; (end, text.as_str()), (status, put), "{steps}");
+        assert_row(&rt, steps, (end, text.as_str()), (status, put));
     }
     Ok(())
 }
@@ -336,7 +345,7 @@ const REFUSED: [(u64, &str, usize, usize); 5] = [
 fn of_what_comes_before_a_refusal_each_256_changes_are_kept(rt: HostRuntime) -> Result<(), Fail> {
     let alloc = rt.alloc();
     let words = ["--me", "me@x.org", "list"];
-    for (count, put, a, t) in REFUSED {
+    for &(count, put, a, t) in &REFUSED {
         let mut steps = String::new(alloc);
         for _ in 0..count {
             steps.push_str("at 5\n")?;
@@ -344,9 +353,9 @@ fn of_what_comes_before_a_refusal_each_256_changes_are_kept(rt: HostRuntime) -> 
         steps.push_str("see\n")?;
         let mut shelf = empty_shelf(alloc)?;
         let (end, text) = ended_over(alloc, &words, "", Some(steps.as_str()), &mut shelf)?;
-        assert_eq!(rt; (end, text.as_str()), (Status::Steps, put));
-        assert_eq!(rt; shelf.bytes(Place::A).len(), a, "{count}");
-        assert_eq!(rt; shelf.bytes(Place::T).len(), t, "{count}");
+        assert_same(&rt, (end, text.as_str()), (Status::Steps, put));
+        assert_row(&rt, count, shelf.bytes(Place::A).len(), a);
+        assert_row(&rt, count, shelf.bytes(Place::T).len(), t);
     }
     Ok(())
 }

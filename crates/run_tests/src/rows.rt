@@ -1,4 +1,5 @@
 //! Whole runs on the worked mails: mails and steps, what is asked after them, and what is put.
+use crate::asserts::assert_same;
 use crate::runs::{empty_shelf, ended_over};
 use follow::Status;
 use std::alloc::Global;
@@ -339,8 +340,8 @@ pub fn ended_on(
 fn each_alone<R: Abort>(rt: &R, alloc: Global, rows: &[Row]) -> Result<(), Fail> {
     for (mails, steps, words, put) in rows.iter().copied() {
         let (end, text) = ended_on(alloc, mails, steps, words)?;
-        assert_eq!(rt; text.as_str(), put);
-        assert_eq!(rt; end, Status::Ok);
+        assert_same(rt, text.as_str(), put);
+        assert_same(rt, end, Status::Ok);
     }
     Ok(())
 }

@@ -1,6 +1,7 @@
 //! Whole runs over devices in memory: how each ends, and what it puts.
 ghost use Rattle.std.specs.Prelude.{◌≡◌, ◌<◌};
 
+use crate::asserts::assert_same;
 use follow::{Status, run};
 use kit::{Steps, Text};
 use outside::{Clock, FixedClock, MemorySink, MemorySource, Shelf};
@@ -161,11 +162,11 @@ fn one_plain_mail_and_the_devices_that_fail(rt: HostRuntime) -> Result<(), Fail>
         (M1, NEVER, 1, Status::Write, ""),
         ("no mail\n", NEVER, 1, Status::Write, ""),
     ];
-    for (mbox, take_fails, put_fails, status, bytes) in cases {
+    for &(mbox, take_fails, put_fails, status, bytes) in &cases {
         let mut mbox = source(alloc, mbox, take_fails)?;
         let (end, text) = ended(alloc, &LIST, &mut mbox, None, put_fails)?;
-        assert_eq!(rt; end, status);
-        assert_eq!(rt; text.as_str(), bytes);
+        assert_same(&rt, end, status);
+        assert_same(&rt, text.as_str(), bytes);
     }
     Ok(())
 }

@@ -1,4 +1,5 @@
 //! Runs by a steps file: the lines that are steps, and where a run stops that can't follow one.
+use crate::asserts::{assert_row, assert_same};
 use crate::rows::{BOB, ended_on, mbox_of};
 use crate::runs::{NEVER, ended, ended_over, source};
 use follow::Status;
@@ -88,10 +89,10 @@ const LINES: [(&str, Status, &str); 36] = [
 
 #[test]
 fn lines_that_are_steps_and_lines_that_are_none(rt: HostRuntime) -> Result<(), Fail> {
-    for (steps, status, put) in LINES {
+    for &(steps, status, put) in &LINES {
         let (end, text) = ended_on(rt.alloc(), &[M1], Some(steps), &LIST)?;
-        assert_eq!(rt; text.as_str(), put, "{steps}");
-        assert_eq!(rt; end, status, "{steps}");
+        assert_row(&rt, steps, text.as_str(), put);
+        assert_row(&rt, steps, end, status);
     }
     Ok(())
 }
@@ -106,12 +107,12 @@ fn the_moment_of_the_words_comes_after_the_steps(rt: HostRuntime) -> Result<(), 
         ),
         ("960", "single:bob@x.org | bob@x.org | fresh 0 | - | -\n"),
     ];
-    for (at, put) in cases {
+    for &(at, put) in &cases {
         let words = ["--me", "me@x.org", "--at", at, "list"];
         let steps = Some("at 900\nnext\nseen 1\n");
         let (end, text) = ended_on(rt.alloc(), &[T1], steps, &words)?;
-        assert_eq!(rt; text.as_str(), put);
-        assert_eq!(rt; end, Status::Ok);
+        assert_same(&rt, text.as_str(), put);
+        assert_same(&rt, end, Status::Ok);
     }
     Ok(())
 }
@@ -123,8 +124,8 @@ fn a_steps_file_that_fails(rt: HostRuntime) -> Result<(), Fail> {
         let mut mbox = source(alloc, mbox_of(alloc, &[M1])?.as_str(), NEVER)?;
         let mut steps = source(alloc, "at 1714564800\nnext\n", fails)?;
         let (end, text) = ended(alloc, &LIST, &mut mbox, Some(&mut steps), NEVER)?;
-        assert_eq!(rt; end, Status::Read);
-        assert_eq!(rt; text.as_str(), "chats: read fault: steps\n");
+        assert_same(&rt, end, Status::Read);
+        assert_same(&rt, text.as_str(), "chats: read fault: steps\n");
     }
     Ok(())
 }
@@ -136,8 +137,8 @@ fn no_mail_is_taken_that_no_step_takes(rt: HostRuntime) -> Result<(), Fail> {
     let mut mbox = source(alloc, mbox_of(alloc, &[M1])?.as_str(), 1)?;
     let mut steps = source(alloc, "at 1714564800\nseen 1\n", NEVER)?;
     let (end, text) = ended(alloc, &LIST, &mut mbox, Some(&mut steps), NEVER)?;
-    assert_eq!(rt; end, Status::Ok);
-    assert_eq!(rt; text.as_str(), "");
+    assert_same(&rt, end, Status::Ok);
+    assert_same(&rt, text.as_str(), "");
     Ok(())
 }
 
@@ -152,11 +153,11 @@ fn a_mailbox_has_no_place_for_more_than_65536_mails(rt: HostRuntime) -> Result<(
         mbox.push_str("From -\n\n")?;
     }
     let (end, text) = ended_over(alloc, &words, mbox.as_str(), None, &mut shelf)?;
-    assert_eq!(rt; end, Status::Ok);
-    assert_eq!(rt; text.as_str(), "");
+    assert_same(&rt, end, Status::Ok);
+    assert_same(&rt, text.as_str(), "");
     mbox.push_str("From -\n\n")?;
     let (end, text) = ended_over(alloc, &words, mbox.as_str(), None, &mut shelf)?;
-    assert_eq!(rt; end, Status::Full);
-    assert_eq!(rt; text.as_str(), "chats: mailbox full\n");
+    assert_same(&rt, end, Status::Full);
+    assert_same(&rt, text.as_str(), "chats: mailbox full\n");
     Ok(())
 }

@@ -1,4 +1,5 @@
 //! Runs of three commits that are stopped in one of them, and made again over what a crash leaves.
+use crate::asserts::{assert_row, assert_same};
 use crate::runs::{DISK, LIST, NEVER, ended_over};
 use follow::Status;
 use shelves::MemoryShelf;
@@ -51,23 +52,28 @@ fn steps_of(alloc: Global) -> Result<String, Fail> {
     Ok(steps)
 }
 
-/// The list after so many of these mails, where as many of each sender's are new.
+/// The line of the list that the mail with a number adds, where as many of its sender's are new.
+fn line_of(alloc: Global, number: u32, fresh: u32) -> Result<String, Fail> {
+    Ok(if has_sender(number) {
+        format!(in alloc;
+            "single:p{number}@x.org | p{number}@x.org | fresh {fresh} | 2024-05-01 10:00 | Hi\n"
+        )?
+    } else {
+        format!(in alloc; "fault {number} no fields\n")?
+    })
+}
+
+/// The list after so many of these mails, where as many of each sender's are new. The faults come last.
 fn list(alloc: Global, last: u32, fresh: u32) -> Result<String, Fail> {
-    let mut chats = String::new(alloc);
-    let mut faults = String::new(alloc);
-    for number in 1..=last {
-        if has_sender(number) {
-            let row = format!(in alloc;
-                "single:p{number}@x.org | p{number}@x.org | fresh {fresh} | 2024-05-01 10:00 | Hi\n"
-            )?;
-            chats.push_str(row.as_str())?;
-        } else {
-            let row = format!(in alloc; "fault {number} no fields\n")?;
-            faults.push_str(row.as_str())?;
+    let mut text = String::new(alloc);
+    for is_chat in [true, false] {
+        for number in 1..=last {
+            if has_sender(number) == is_chat {
+                text.push_str(line_of(alloc, number, fresh)?.as_str())?;
+            }
         }
     }
-    chats.push_str(faults.as_str())?;
-    Ok(chats)
+    Ok(text)
 }
 
 /// A run over these files has three commits, and puts this list at once.
@@ -80,8 +86,8 @@ fn is_made_at_once<R: Abort>(
 ) -> Result<(), Fail> {
     let mut shelf = shelf_of(alloc, None)?;
     let (end, text) = ended_over(alloc, &LIST, mbox, steps, &mut shelf)?;
-    assert_eq!(rt; (end, text.as_str()), (Status::Ok, put));
-    assert_eq!(rt; shelf.calls().len(), 30);
+    assert_same(rt, (end, text.as_str()), (Status::Ok, put));
+    assert_same(rt, shelf.calls().len(), 30);
     Ok(())
 }
 
@@ -93,22 +99,14 @@ fn is_made_again<R: Abort>(
     steps: Option<&str>,
     put: &str,
 ) -> Result<(), Fail> {
-    for stop in STOPS {
+    for &stop in &STOPS {
         let mut shelf = shelf_of(alloc, Some(stop))?;
         let (end, text) = ended_over(alloc, &LIST, mbox, steps, &mut shelf)?;
-        assert_eq!(rt;
-            (end, text.as_str()),
-            (Status::Disk, DISK),
-            "stopped at {stop}"
-        );
-        for crash in CRASHES {
+        assert_row(rt, stop, (end, text.as_str()), (Status::Disk, DISK));
+        for &crash in &CRASHES {
             let mut left = shelf.crash(crash)?;
             let (end, text) = ended_over(alloc, &LIST, mbox, steps, &mut left)?;
-            assert_eq!(rt;
-                (end, text.as_str()),
-                (Status::Ok, put),
-                "stopped at {stop}: {crash:?}"
-            );
+            assert_row(rt, (stop, crash), (end, text.as_str()), (Status::Ok, put));
         }
     }
     Ok(())

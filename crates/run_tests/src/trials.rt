@@ -1,6 +1,7 @@
 //! The trial mailbox, and the summary of a trial.
 ghost use Rattle.std.specs.Prelude.{◌≡◌, ◌<◌};
 
+use crate::asserts::assert_same;
 use crate::runs::NEVER;
 use box_maker::{box_bytes, make_box};
 use kit::{Addr, Steps};
@@ -258,7 +259,7 @@ fn its_first_mails_are_those_that_another_program_draws(rt: HostRuntime) -> Resu
     let alloc = rt.alloc();
     let me = addr(alloc, b"me@box.example")?;
     let bytes = box_bytes(alloc, 7, 2_000, &me)?;
-    assert_eq!(rt; bytes.len(), 427_999);
+    assert_same(&rt, bytes.len(), 427_999);
     assert!(rt; bytes.starts_with(FIRST_MAILS.as_bytes()));
     Ok(())
 }
@@ -268,12 +269,13 @@ fn it_is_put_as_it_is_made(rt: HostRuntime) -> Result<(), Fail> {
     let alloc = rt.alloc();
     let me = addr(alloc, b"me@x.org")?;
     let mut out = sink(alloc, NEVER)?;
-    assert_eq!(rt; make_box(alloc, 7, 1, &me, &mut out), Ok(()));
-    assert_eq!(rt; out.bytes(), box_bytes(alloc, 7, 1, &me)?.as_slice());
+    assert_same(&rt, make_box(alloc, 7, 1, &me, &mut out), Ok(()));
+    assert_same(&rt, out.bytes(), box_bytes(alloc, 7, 1, &me)?.as_slice());
     let mut failing = sink(alloc, 1)?;
-    assert_eq!(rt;
+    assert_same(
+        &rt,
         make_box(alloc, 7, 1, &me, &mut failing),
-        Err(PrintFault::Write)
+        Err(PrintFault::Write),
     );
     Ok(())
 }
@@ -296,10 +298,10 @@ fn a_trial_is_summed_up_in_one_line(rt: HostRuntime) -> Result<(), Fail> {
         ),
         (7, 1, Err(TrialFault::Write), ""),
     ];
-    for (number, fails, end, line) in cases {
+    for &(number, fails, end, line) in &cases {
         let (found, text) = ended(rt.alloc(), number, fails)?;
-        assert_eq!(rt; found, end);
-        assert_eq!(rt; text.as_str(), line);
+        assert_same(&rt, found, end);
+        assert_same(&rt, text.as_str(), line);
     }
     Ok(())
 }

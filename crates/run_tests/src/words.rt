@@ -1,6 +1,7 @@
 //! The words of a command line: which runs they start, and when the clock is asked.
 ghost use Rattle.std.specs.Prelude.{⊤, None};
 
+use crate::asserts::{assert_row, assert_same};
 use crate::runs::{M1, M1_LINE, NEVER, answered, empty_shelf, ended_by, source};
 use follow::Status;
 use kit::LAST_MOMENT;
@@ -138,12 +139,12 @@ fn run_line(alloc: Global, line: &str) -> Result<(Status, String), Fail> {
 fn words_that_are_no_command(rt: HostRuntime) -> Result<(), Fail> {
     let alloc = rt.alloc();
     let (end, text) = answered(alloc, &[], M1)?;
-    assert_eq!(rt; end, Status::Usage);
-    assert_eq!(rt; text.as_str(), USAGE);
-    for line in NO_COMMANDS {
+    assert_same(&rt, end, Status::Usage);
+    assert_same(&rt, text.as_str(), USAGE);
+    for &line in &NO_COMMANDS {
         let (end, text) = run_line(alloc, line)?;
-        assert_eq!(rt; end, Status::Usage, "{line}");
-        assert_eq!(rt; text.as_str(), USAGE);
+        assert_row(&rt, line, end, Status::Usage);
+        assert_same(&rt, text.as_str(), USAGE);
     }
     Ok(())
 }
@@ -151,10 +152,10 @@ fn words_that_are_no_command(rt: HostRuntime) -> Result<(), Fail> {
 #[test]
 fn chats_and_apps_that_are_not_there(rt: HostRuntime) -> Result<(), Fail> {
     let alloc = rt.alloc();
-    for (line, status, put) in NOT_THERE {
+    for &(line, status, put) in &NOT_THERE {
         let (end, text) = run_line(alloc, line)?;
-        assert_eq!(rt; text.as_str(), put, "{line}");
-        assert_eq!(rt; end, status);
+        assert_row(&rt, line, text.as_str(), put);
+        assert_same(&rt, end, status);
     }
     Ok(())
 }
@@ -162,10 +163,10 @@ fn chats_and_apps_that_are_not_there(rt: HostRuntime) -> Result<(), Fail> {
 #[test]
 fn one_plain_mail_by_many_words(rt: HostRuntime) -> Result<(), Fail> {
     let alloc = rt.alloc();
-    for line in LISTS {
+    for &line in &LISTS {
         let (end, text) = run_line(alloc, line)?;
-        assert_eq!(rt; end, Status::Ok, "{line}");
-        assert_eq!(rt; text.as_str(), M1_LINE);
+        assert_row(&rt, line, end, Status::Ok);
+        assert_same(&rt, text.as_str(), M1_LINE);
     }
     let words = [
         "--me",
@@ -175,11 +176,11 @@ fn one_plain_mail_by_many_words(rt: HostRuntime) -> Result<(), Fail> {
         "list",
     ];
     let (end, text) = answered(alloc, &words, M1)?;
-    assert_eq!(rt; end, Status::Ok);
-    assert_eq!(rt; text.as_str(), M1_LINE);
+    assert_same(&rt, end, Status::Ok);
+    assert_same(&rt, text.as_str(), M1_LINE);
     let (end, text) = answered(alloc, &["--me", "", "list"], M1)?;
-    assert_eq!(rt; end, Status::Usage);
-    assert_eq!(rt; text.as_str(), USAGE);
+    assert_same(&rt, end, Status::Usage);
+    assert_same(&rt, text.as_str(), USAGE);
     Ok(())
 }
 
@@ -212,7 +213,7 @@ fn the_clock_is_asked_once_where_no_moment_is_given(rt: HostRuntime) -> Result<(
         ("--me me@x.org contacts", 1, "bob@x.org | Bob\n"),
         ("--me nobody list", 0, USAGE),
     ];
-    for (line, asked, put) in cases {
+    for &(line, asked, put) in &cases {
         let words = line.split(' ').collect::<Vec<&str>>(alloc)?;
         let mut mbox = source(alloc, M1, NEVER)?;
         let mut clock = CountingClock {
@@ -223,8 +224,8 @@ fn the_clock_is_asked_once_where_no_moment_is_given(rt: HostRuntime) -> Result<(
         let (_status, text) = ended_by(
             alloc, &words, &mut mbox, None, &mut shelf, &mut clock, NEVER,
         )?;
-        assert_eq!(rt; clock.asked, asked, "{line}");
-        assert_eq!(rt; text.as_str(), put);
+        assert_row(&rt, line, clock.asked, asked);
+        assert_same(&rt, text.as_str(), put);
     }
     Ok(())
 }
@@ -232,7 +233,7 @@ fn the_clock_is_asked_once_where_no_moment_is_given(rt: HostRuntime) -> Result<(
 #[test]
 fn a_trial_asks_no_device(rt: HostRuntime) -> Result<(), Fail> {
     let alloc = rt.alloc();
-    for (line, head) in TRIALS {
+    for &(line, head) in &TRIALS {
         let words = line.split(' ').collect::<Vec<&str>>(alloc)?;
         // The mbox would fail if it were read, and the shelf if it were called.
         let mut mbox = source(alloc, M1, 1)?;
@@ -244,9 +245,9 @@ fn a_trial_asks_no_device(rt: HostRuntime) -> Result<(), Fail> {
         let (end, text) = ended_by(
             alloc, &words, &mut mbox, None, &mut shelf, &mut clock, NEVER,
         )?;
-        assert_eq!(rt; end, Status::Ok, "{line}");
+        assert_row(&rt, line, end, Status::Ok);
         assert!(rt; text.as_str().starts_with(head), "{line}");
-        assert_eq!(rt; clock.asked, 0);
+        assert_same(&rt, clock.asked, 0);
     }
     Ok(())
 }

@@ -1,4 +1,5 @@
 //! Each device once: what it gives, and a call of it that fails.
+use crate::asserts::assert_same;
 use kit::LAST_MOMENT;
 use outside::{
     Clock, Failed, FileSink, FileSource, FixedClock, MemorySink, MemorySource, NoShelf, NoSource,
@@ -13,12 +14,12 @@ fn a_memory_source_fails_at_its_second_call(rt: HostRuntime) -> Result<(), Fail>
     let alloc = rt.alloc();
     let mut source = MemorySource::new(b"abc".as_slice().to_vec(alloc)?, [2].to_vec(alloc)?);
     let mut buf = [0u8; 2];
-    assert_eq!(rt; source.take(&mut buf), Ok(2));
-    assert_eq!(rt; buf, *b"ab");
-    assert_eq!(rt; source.take(&mut buf), Err(Failed));
-    assert_eq!(rt; source.take(&mut buf), Ok(1));
-    assert_eq!(rt; buf[0], b'c');
-    assert_eq!(rt; source.take(&mut buf), Ok(0));
+    assert_same(&rt, source.take(&mut buf), Ok(2));
+    assert_same(&rt, buf, *b"ab");
+    assert_same(&rt, source.take(&mut buf), Err(Failed));
+    assert_same(&rt, source.take(&mut buf), Ok(1));
+    assert_same(&rt, buf[0], b'c');
+    assert_same(&rt, source.take(&mut buf), Ok(0));
     Ok(())
 }
 
@@ -27,49 +28,49 @@ fn a_quiet_source_gives_its_bytes(rt: HostRuntime) -> Result<(), Fail> {
     let mut source = QuietSource::new(b"ab".as_slice().to_vec(rt.alloc())?);
     let mut buf = [0u8; 4];
     match source.take(&mut buf) {
-        Ok(count) => assert_eq!(rt; count, 2),
+        Ok(count) => assert_same(&rt, count, 2),
         // This is proved: its count of faults can't rise.
         Err(Failed) => unreachable!(),
     }
-    assert_eq!(rt; buf, *b"ab\0\0");
+    assert_same(&rt, buf, *b"ab\0\0");
     Ok(())
 }
 
 #[test]
 fn no_source_is_at_its_end(rt: HostRuntime) {
     let mut buf = [0u8; 4];
-    assert_eq!(rt; NoSource.take(&mut buf), Ok(0));
+    assert_same(&rt, NoSource.take(&mut buf), Ok(0));
 }
 
 #[test]
 fn a_memory_sink_fails_at_its_second_call_and_when_full(rt: HostRuntime) -> Result<(), Fail> {
     let alloc = rt.alloc();
     let mut sink = MemorySink::new(alloc, 4, [2].to_vec(alloc)?)?;
-    assert_eq!(rt; sink.put(b"ab"), Ok(()));
-    assert_eq!(rt; sink.put(b"c"), Err(Failed));
-    assert_eq!(rt; sink.bytes(), b"ab".as_slice());
-    assert_eq!(rt; sink.put(b"cd"), Ok(()));
-    assert_eq!(rt; sink.put(b"e"), Err(Failed));
-    assert_eq!(rt; sink.bytes(), b"abcd".as_slice());
+    assert_same(&rt, sink.put(b"ab"), Ok(()));
+    assert_same(&rt, sink.put(b"c"), Err(Failed));
+    assert_same(&rt, sink.bytes(), b"ab".as_slice());
+    assert_same(&rt, sink.put(b"cd"), Ok(()));
+    assert_same(&rt, sink.put(b"e"), Err(Failed));
+    assert_same(&rt, sink.bytes(), b"abcd".as_slice());
     Ok(())
 }
 
 #[test]
 fn a_fixed_clock_stands_still(rt: HostRuntime) {
     let mut clock = FixedClock::new(1_700_000_000);
-    assert_eq!(rt; clock.now(), 1_700_000_000);
-    assert_eq!(rt; clock.now(), 1_700_000_000);
+    assert_same(&rt, clock.now(), 1_700_000_000);
+    assert_same(&rt, clock.now(), 1_700_000_000);
 }
 
 #[test]
 fn no_shelf_refuses_each_call(rt: HostRuntime) {
     let mut shelf = NoShelf::new();
     let mut buf = [0u8; 4];
-    assert_eq!(rt; shelf.size(Place::A), Err(Failed));
-    assert_eq!(rt; shelf.read(Place::B, 0, &mut buf), Err(Failed));
-    assert_eq!(rt; shelf.write_at(Place::T, 0, b"ab"), Err(Failed));
-    assert_eq!(rt; shelf.cut(Place::A, 0), Err(Failed));
-    assert_eq!(rt; shelf.sync(Place::B), Err(Failed));
+    assert_same(&rt, shelf.size(Place::A), Err(Failed));
+    assert_same(&rt, shelf.read(Place::B, 0, &mut buf), Err(Failed));
+    assert_same(&rt, shelf.write_at(Place::T, 0, b"ab"), Err(Failed));
+    assert_same(&rt, shelf.cut(Place::A, 0), Err(Failed));
+    assert_same(&rt, shelf.sync(Place::B), Err(Failed));
 }
 
 #[test]
@@ -83,11 +84,11 @@ fn a_file_is_read_to_its_end(rt: HostRuntime) -> Result<(), Fail> {
     fs::write(&rt, name.as_str(), "abc")?;
     let mut source = FileSource::open(&rt, name.as_str())?;
     let mut buf = [0u8; 2];
-    assert_eq!(rt; source.take(&mut buf), Ok(2));
-    assert_eq!(rt; buf, *b"ab");
-    assert_eq!(rt; source.take(&mut buf), Ok(1));
-    assert_eq!(rt; buf[0], b'c');
-    assert_eq!(rt; source.take(&mut buf), Ok(0));
+    assert_same(&rt, source.take(&mut buf), Ok(2));
+    assert_same(&rt, buf, *b"ab");
+    assert_same(&rt, source.take(&mut buf), Ok(1));
+    assert_same(&rt, buf[0], b'c');
+    assert_same(&rt, source.take(&mut buf), Ok(0));
     fs::remove_file(&rt, name.as_str())?;
     Ok(())
 }
@@ -96,7 +97,7 @@ fn a_file_is_read_to_its_end(rt: HostRuntime) -> Result<(), Fail> {
 fn a_file_that_is_absent_fails_at_its_first_call(rt: HostRuntime) -> Result<(), Fail> {
     let mut source = FileSource::open(&rt, "no/such/folder/no_such_file")?;
     let mut buf = [0u8; 4];
-    assert_eq!(rt; source.take(&mut buf), Err(Failed));
+    assert_same(&rt, source.take(&mut buf), Err(Failed));
     Ok(())
 }
 
@@ -104,14 +105,14 @@ fn a_file_that_is_absent_fails_at_its_first_call(rt: HostRuntime) -> Result<(), 
 fn a_broken_source_fails_at_each_call(rt: HostRuntime) {
     let mut source = FileSource::<fs::File>::broken();
     let mut buf = [0u8; 4];
-    assert_eq!(rt; source.take(&mut buf), Err(Failed));
-    assert_eq!(rt; source.take(&mut buf), Err(Failed));
+    assert_same(&rt, source.take(&mut buf), Err(Failed));
+    assert_same(&rt, source.take(&mut buf), Err(Failed));
 }
 
 #[test]
 fn standard_output_takes_a_chunk(rt: HostRuntime) -> Result<(), Fail> {
     let mut sink = FileSink::stdout(&rt)?;
-    assert_eq!(rt; sink.put(b"a chunk\n"), Ok(()));
+    assert_same(&rt, sink.put(b"a chunk\n"), Ok(()));
     Ok(())
 }
 
@@ -157,39 +158,49 @@ const PATIENT: FakeWriter = FakeWriter {
 
 #[test]
 fn a_writer_that_takes_less_at_once_is_asked_again(rt: HostRuntime) {
-    assert_eq!(rt; put_four(PATIENT), Ok(()));
+    assert_same(&rt, put_four(PATIENT), Ok(()));
 }
 
 #[test]
 fn a_writer_that_takes_nothing_fails_the_put(rt: HostRuntime) {
-    assert_eq!(rt; put_four(FakeWriter { room: 0, ..PATIENT }), Err(Failed));
+    assert_same(
+        &rt,
+        put_four(FakeWriter { room: 0, ..PATIENT }),
+        Err(Failed),
+    );
 }
 
 #[test]
 fn a_writer_that_takes_less_in_all_fails_the_put(rt: HostRuntime) {
-    assert_eq!(rt; put_four(FakeWriter { room: 3, ..PATIENT }), Err(Failed));
+    assert_same(
+        &rt,
+        put_four(FakeWriter { room: 3, ..PATIENT }),
+        Err(Failed),
+    );
 }
 
 #[test]
 fn a_writer_that_fails_fails_the_put(rt: HostRuntime) {
-    assert_eq!(rt;
+    assert_same(
+        &rt,
         put_four(FakeWriter {
             room: 3,
             fails_when_full: true,
             ..PATIENT
         }),
-        Err(Failed)
+        Err(Failed),
     );
 }
 
 #[test]
 fn a_writer_that_fails_to_flush_fails_the_put(rt: HostRuntime) {
-    assert_eq!(rt;
+    assert_same(
+        &rt,
         put_four(FakeWriter {
             fails_to_flush: true,
             ..PATIENT
         }),
-        Err(Failed)
+        Err(Failed),
     );
 }
 

@@ -1,4 +1,5 @@
 //! The disk model on the shelf in memory, sentence by sentence.
+use crate::asserts::assert_same;
 use outside::{Failed, Place, Shelf, cut_and_sync, write_and_sync};
 use shelves::{Crash, Did, MemoryShelf, ShelfCall};
 use std::alloc::Global;
@@ -67,7 +68,7 @@ fn a_new_shelf_has_one_crash_outcome(rt: HostRuntime) {
 #[test]
 fn a_range_that_was_written_may_hold_any_bytes(rt: HostRuntime) {
     let mut shelf = small(rt.alloc(), None).expect(&rt, "memory");
-    assert_eq!(rt; write(&mut shelf, Place::A, 1, &[4]), Ok(()));
+    assert_same(&rt, write(&mut shelf, Place::A, 1, &[4]), Ok(()));
     let left = Left {
         old: &[7, 8, 9],
         new: &[7, 4, 9],
@@ -79,7 +80,7 @@ fn a_range_that_was_written_may_hold_any_bytes(rt: HostRuntime) {
 #[test]
 fn what_lies_past_the_synced_size_may_hold_any_bytes(rt: HostRuntime) {
     let mut shelf = small(rt.alloc(), None).expect(&rt, "memory");
-    assert_eq!(rt; write(&mut shelf, Place::A, 3, &[4, 4]), Ok(()));
+    assert_same(&rt, write(&mut shelf, Place::A, 3, &[4, 4]), Ok(()));
     let left = Left {
         old: &[7, 8, 9],
         new: &[7, 8, 9, 4, 4],
@@ -91,9 +92,9 @@ fn what_lies_past_the_synced_size_may_hold_any_bytes(rt: HostRuntime) {
 #[test]
 fn the_size_may_be_any_since_the_sync(rt: HostRuntime) {
     let mut shelf = small(rt.alloc(), None).expect(&rt, "memory");
-    assert_eq!(rt; cut(&mut shelf, Place::A, 1), Ok(()));
-    assert_eq!(rt; write(&mut shelf, Place::A, 1, &[4]), Ok(()));
-    assert_eq!(rt; shelf.size(Place::A), Ok(2));
+    assert_same(&rt, cut(&mut shelf, Place::A, 1), Ok(()));
+    assert_same(&rt, write(&mut shelf, Place::A, 1, &[4]), Ok(()));
+    assert_same(&rt, shelf.size(Place::A), Ok(2));
     let left = Left {
         old: &[7, 8, 9],
         new: &[7, 4],
@@ -105,8 +106,8 @@ fn the_size_may_be_any_since_the_sync(rt: HostRuntime) {
 #[test]
 fn all_other_bytes_stay(rt: HostRuntime) {
     let mut shelf = small(rt.alloc(), None).expect(&rt, "memory");
-    assert_eq!(rt; write(&mut shelf, Place::A, 0, &[4]), Ok(()));
-    assert_eq!(rt; write(&mut shelf, Place::A, 2, &[4, 4]), Ok(()));
+    assert_same(&rt, write(&mut shelf, Place::A, 0, &[4]), Ok(()));
+    assert_same(&rt, write(&mut shelf, Place::A, 2, &[4, 4]), Ok(()));
     let left = Left {
         old: &[7, 8, 9],
         new: &[4, 8, 4, 4],
@@ -120,17 +121,17 @@ fn all_other_bytes_stay(rt: HostRuntime) {
 #[test]
 fn a_sync_makes_what_a_read_gives_last(rt: HostRuntime) {
     let mut shelf = small(rt.alloc(), None).expect(&rt, "memory");
-    assert_eq!(rt; write_and_sync(&mut shelf, Place::A, 0, &[4]), Ok(()));
+    assert_same(&rt, write_and_sync(&mut shelf, Place::A, 0, &[4]), Ok(()));
     assert!(rt; leaves(&shelf, Place::A, only(&[4, 8, 9])));
-    assert_eq!(rt; cut_and_sync(&mut shelf, Place::A, 0), Ok(()));
+    assert_same(&rt, cut_and_sync(&mut shelf, Place::A, 0), Ok(()));
     assert!(rt; leaves(&shelf, Place::A, only(&[])));
 }
 
 #[test]
 fn a_sync_of_another_place_makes_nothing_last(rt: HostRuntime) {
     let mut shelf = small(rt.alloc(), None).expect(&rt, "memory");
-    assert_eq!(rt; write(&mut shelf, Place::T, 0, &[4]), Ok(()));
-    assert_eq!(rt; shelf.sync(Place::A), Ok(()));
+    assert_same(&rt, write(&mut shelf, Place::T, 0, &[4]), Ok(()));
+    assert_same(&rt, shelf.sync(Place::A), Ok(()));
     let left = Left {
         old: &[5],
         new: &[4],
@@ -143,12 +144,12 @@ fn a_sync_of_another_place_makes_nothing_last(rt: HostRuntime) {
 fn a_read_gives_what_there_is(rt: HostRuntime) {
     let mut shelf = small(rt.alloc(), None).expect(&rt, "memory");
     let mut buf = [0u8; 2];
-    assert_eq!(rt; shelf.read(Place::A, 0, &mut buf), Ok(2));
-    assert_eq!(rt; buf, [7, 8]);
-    assert_eq!(rt; shelf.read(Place::A, 2, &mut buf), Ok(1));
-    assert_eq!(rt; buf[0], 9);
-    assert_eq!(rt; shelf.read(Place::A, 3, &mut buf), Ok(0));
-    assert_eq!(rt; shelf.read(Place::A, 99, &mut buf), Ok(0));
+    assert_same(&rt, shelf.read(Place::A, 0, &mut buf), Ok(2));
+    assert_same(&rt, buf, [7, 8]);
+    assert_same(&rt, shelf.read(Place::A, 2, &mut buf), Ok(1));
+    assert_same(&rt, buf[0], 9);
+    assert_same(&rt, shelf.read(Place::A, 3, &mut buf), Ok(0));
+    assert_same(&rt, shelf.read(Place::A, 99, &mut buf), Ok(0));
 }
 
 #[test]
@@ -156,10 +157,10 @@ fn a_call_that_is_to_fail_changes_nothing(rt: HostRuntime) -> Result<(), Fail> {
     let alloc = rt.alloc();
     let fails = [1, 3].to_vec(alloc)?;
     let mut shelf = MemoryShelf::new(alloc, &[7, 8], &[], &[], 16, 12, fails, None)?;
-    assert_eq!(rt; shelf.write_at(Place::A, 0, &[4]), Err(Failed));
+    assert_same(&rt, shelf.write_at(Place::A, 0, &[4]), Err(Failed));
     assert!(rt; leaves(&shelf, Place::A, only(&[7, 8])));
-    assert_eq!(rt; shelf.write_at(Place::A, 0, &[4]), Ok(()));
-    assert_eq!(rt; shelf.sync(Place::A), Err(Failed));
+    assert_same(&rt, shelf.write_at(Place::A, 0, &[4]), Ok(()));
+    assert_same(&rt, shelf.sync(Place::A), Err(Failed));
     let left = Left {
         old: &[7, 8],
         new: &[4, 8],
@@ -172,8 +173,8 @@ fn a_call_that_is_to_fail_changes_nothing(rt: HostRuntime) -> Result<(), Fail> {
 #[test]
 fn calls_are_recorded(rt: HostRuntime) {
     let mut shelf = small(rt.alloc(), Some(2)).expect(&rt, "memory");
-    assert_eq!(rt; write(&mut shelf, Place::B, 0, &[4, 4]), Ok(()));
-    assert_eq!(rt; cut(&mut shelf, Place::B, 1), Err(Failed));
+    assert_same(&rt, write(&mut shelf, Place::B, 0, &[4, 4]), Ok(()));
+    assert_same(&rt, cut(&mut shelf, Place::B, 1), Err(Failed));
     let written = ShelfCall {
         did: Did::Write,
         place: Place::B,
@@ -186,18 +187,18 @@ fn calls_are_recorded(rt: HostRuntime) {
         at: 1,
         len: 0,
     };
-    assert_eq!(rt; shelf.calls(), [written, cut].as_slice());
+    assert_same(&rt, shelf.calls(), [written, cut].as_slice());
 }
 
 #[test]
 fn a_write_past_the_room_and_a_call_past_the_record_fail(rt: HostRuntime) -> Result<(), Fail> {
     let alloc = rt.alloc();
     let mut shelf = MemoryShelf::new(alloc, &[], &[], &[], 2, 3, Vec::new(alloc), None)?;
-    assert_eq!(rt; shelf.write_at(Place::B, 0, &[4, 4, 4]), Err(Failed));
-    assert_eq!(rt; shelf.write_at(Place::B, 0, &[4, 4]), Ok(()));
-    assert_eq!(rt; shelf.sync(Place::B), Ok(()));
-    assert_eq!(rt; shelf.size(Place::B), Err(Failed));
-    assert_eq!(rt; shelf.calls().len(), 3);
+    assert_same(&rt, shelf.write_at(Place::B, 0, &[4, 4, 4]), Err(Failed));
+    assert_same(&rt, shelf.write_at(Place::B, 0, &[4, 4]), Ok(()));
+    assert_same(&rt, shelf.sync(Place::B), Ok(()));
+    assert_same(&rt, shelf.size(Place::B), Err(Failed));
+    assert_same(&rt, shelf.calls().len(), 3);
     Ok(())
 }
 
@@ -238,9 +239,9 @@ fn left_at(stop: u64) -> Left<'static> {
 fn a_script_stopped_at_each_call(rt: HostRuntime) {
     for stop in 1..7u64 {
         let mut shelf = small(rt.alloc(), Some(stop)).expect(&rt, "memory");
-        assert_eq!(rt; script(&mut shelf).is_ok(), stop == 6);
+        assert_same(&rt, script(&mut shelf).is_ok(), stop == 6);
         assert!(rt; leaves(&shelf, Place::A, left_at(stop)));
-        assert_eq!(rt; shelf.sync(Place::A), Err(Failed));
+        assert_same(&rt, shelf.sync(Place::A), Err(Failed));
         assert!(rt; leaves(&shelf, Place::A, left_at(stop)));
     }
 }
@@ -248,12 +249,12 @@ fn a_script_stopped_at_each_call(rt: HostRuntime) {
 #[test]
 fn a_crash_is_a_shelf_that_goes_on(rt: HostRuntime) -> Result<(), Fail> {
     let mut shelf = small(rt.alloc(), Some(2)).expect(&rt, "memory");
-    assert_eq!(rt; write(&mut shelf, Place::A, 0, &[4]), Ok(()));
+    assert_same(&rt, write(&mut shelf, Place::A, 0, &[4]), Ok(()));
     let mut left = shelf.crash(Crash::Ones)?;
     assert!(rt; leaves(&left, Place::A, only(&[1, 8, 9])));
-    assert_eq!(rt; left.calls().len(), 0);
-    assert_eq!(rt; write(&mut left, Place::A, 3, &[6]), Ok(()));
-    assert_eq!(rt; left.sync(Place::A), Ok(()));
+    assert_same(&rt, left.calls().len(), 0);
+    assert_same(&rt, write(&mut left, Place::A, 3, &[6]), Ok(()));
+    assert_same(&rt, left.sync(Place::A), Ok(()));
     assert!(rt; leaves(&left, Place::A, only(&[1, 8, 9, 6])));
     Ok(())
 }

@@ -1,6 +1,7 @@
 //! Images of a mailbox, and changes, byte by byte.
 ghost use Rattle.std.specs.Prelude.{◌≡◌, ◌<◌};
 
+use crate::asserts::{assert_row, assert_same};
 use box_state::{Fault, Held};
 use kit::Steps;
 use state_image::{ImageFault, Position, read_change, read_image, write_change, write_image};
@@ -220,12 +221,13 @@ fn fault_of(alloc: Global, bytes: &[u8]) -> Option<ImageFault> {
 
 #[test]
 fn each_field_that_breaks_its_rule_is_named(rt: HostRuntime) -> Result<(), Fail> {
-    for (index, bytes, offset) in BROKEN {
+    for &(index, bytes, offset) in &BROKEN {
         let image = image_with(rt.alloc(), index, bytes)?;
-        assert_eq!(rt;
+        assert_row(
+            &rt,
+            index,
             fault_of(rt.alloc(), &image),
             Some(ImageFault::Malformed(offset)),
-            "field {index}"
         );
     }
     Ok(())
@@ -237,7 +239,7 @@ fn each_field_that_breaks_its_rule_is_named(rt: HostRuntime) -> Result<(), Fail>
 fn each_field_may_be_short(rt: HostRuntime) -> Result<(), Fail> {
     let image = whole(rt.alloc())?;
     let mut offset: usize = 0;
-    for field in FIELDS {
+    for &field in &FIELDS {
         for cut in 0..field.len() {
             let bytes = image.get(..offset.saturating_add(cut)).ok_or("too few")?;
             let fault = if offset == 0 {
@@ -245,15 +247,11 @@ fn each_field_may_be_short(rt: HostRuntime) -> Result<(), Fail> {
             } else {
                 ImageFault::Malformed(offset)
             };
-            assert_eq!(rt;
-                fault_of(rt.alloc(), bytes),
-                Some(fault),
-                "{offset} and {cut}"
-            );
+            assert_row(&rt, (offset, cut), fault_of(rt.alloc(), bytes), Some(fault));
         }
         offset = offset.saturating_add(field.len());
     }
-    assert_eq!(rt; (offset, image.len()), (SIZE, SIZE));
+    assert_same(&rt, (offset, image.len()), (SIZE, SIZE));
     Ok(())
 }
 
@@ -261,9 +259,10 @@ fn each_field_may_be_short(rt: HostRuntime) -> Result<(), Fail> {
 fn nothing_follows_the_last_item(rt: HostRuntime) -> Result<(), Fail> {
     let mut image = whole(rt.alloc())?;
     image.push(0)?;
-    assert_eq!(rt;
+    assert_same(
+        &rt,
         fault_of(rt.alloc(), &image),
-        Some(ImageFault::Malformed(SIZE))
+        Some(ImageFault::Malformed(SIZE)),
     );
     Ok(())
 }
@@ -277,8 +276,8 @@ fn the_name_tells_the_version(rt: HostRuntime) -> Result<(), Fail> {
         (b"chatsim1", ImageFault::Version),
         (b"CHATSIM1", ImageFault::Malformed(8)),
     ];
-    for (bytes, fault) in rows {
-        assert_eq!(rt; fault_of(rt.alloc(), bytes), Some(fault));
+    for &(bytes, fault) in &rows {
+        assert_same(&rt, fault_of(rt.alloc(), bytes), Some(fault));
     }
     Ok(())
 }
@@ -313,18 +312,19 @@ fn an_image_is_read(rt: HostRuntime) -> Result<(), Fail> {
         steps: 256,
         lines: 32,
     };
-    assert_eq!(rt; position, expected);
-    assert_eq!(rt; mailbox.me().bytes(), b"me@x.org".as_slice());
-    assert_eq!(rt;
+    assert_same(&rt, position, expected);
+    assert_same(&rt, mailbox.me().bytes(), b"me@x.org".as_slice());
+    assert_same(
+        &rt,
         (mailbox.now(), mailbox.next_uid(), mailbox.items().len()),
-        (1_714_564_800, 12, ITEMS.len())
+        (1_714_564_800, 12, ITEMS.len()),
     );
     for (index, item) in ITEMS.iter().enumerate() {
         let found = mailbox
             .items()
             .get(index)
             .map(|item| (item.uid, item.arrival, item.seen, item.held));
-        assert_eq!(rt; found, Some(*item));
+        assert_same(&rt, found, Some(*item));
     }
     Ok(())
 }
@@ -344,7 +344,7 @@ fn written_again<L: Ledger>(alloc: Global, image: &[u8], blank: Blank) -> Result
 fn what_is_read_is_written_again(rt: HostRuntime) -> Result<(), Fail> {
     let image = whole(rt.alloc())?;
     let written = written_again::<Brand>(rt.alloc(), &image, Blank::new(1))?;
-    assert_eq!(rt; written.as_slice(), image.as_slice());
+    assert_same(&rt, written.as_slice(), image.as_slice());
     Ok(())
 }
 
@@ -491,20 +491,21 @@ fn read_again(alloc: Global, bytes: &[u8]) -> Result<Result<(usize, Vec<u8>), Im
 
 #[test]
 fn each_field_of_a_card_at_its_edges(rt: HostRuntime) -> Result<(), Fail> {
-    for (field, put, malformed) in EDGES {
+    for &(field, put, malformed) in &EDGES {
         let mut bytes = Vec::new(rt.alloc());
         bytes.push(1)?;
         put_card(&mut bytes, field, put)?;
         match read_again(rt.alloc(), &bytes)? {
             Ok((after, written)) => {
-                assert_eq!(rt; (malformed, after), (None, bytes.len()), "field {field}");
-                assert_eq!(rt; written.as_slice(), bytes.as_slice(), "field {field}");
+                assert_row(&rt, field, (malformed, after), (None, bytes.len()));
+                assert_row(&rt, field, written.as_slice(), bytes.as_slice());
             }
             Err(fault) => {
-                assert_eq!(rt;
+                assert_row(
+                    &rt,
+                    field,
                     Some(fault),
                     malformed.map(ImageFault::Malformed),
-                    "field {field}"
                 );
             }
         }
@@ -536,13 +537,13 @@ const CHANGES: [(&[u8], Result<usize, ImageFault>); 18] = [
 
 #[test]
 fn changes_are_read_and_written_again(rt: HostRuntime) -> Result<(), Fail> {
-    for (bytes, expected) in CHANGES {
+    for &(bytes, expected) in &CHANGES {
         match read_again(rt.alloc(), bytes)? {
             Ok((after, written)) => {
-                assert_eq!(rt; Ok(after), expected);
-                assert_eq!(rt; written.as_slice(), bytes);
+                assert_same(&rt, Ok(after), expected);
+                assert_same(&rt, written.as_slice(), bytes);
             }
-            Err(fault) => assert_eq!(rt; Err(fault), expected),
+            Err(fault) => assert_same(&rt, Err(fault), expected),
         }
     }
     Ok(())
@@ -573,10 +574,11 @@ fn a_change_is_read_from_an_offset_on(rt: HostRuntime) -> Result<(), Fail> {
         (9, Err(ImageFault::Malformed(10))),
         (11, Err(ImageFault::Malformed(11))),
     ] {
-        assert_eq!(rt;
+        assert_row(
+            &rt,
+            offset,
             after_change(rt.alloc(), bytes, offset)?,
             expected,
-            "from {offset}"
         );
     }
     Ok(())
@@ -613,9 +615,10 @@ fn heavy_image(alloc: Global) -> Result<Vec<u8>, Fail> {
 fn the_card_that_passes_the_weight_is_named(rt: HostRuntime) -> Result<(), Fail> {
     let image = heavy_image(rt.alloc())?;
     let offset = 68 + 256 * (14 + 1_048_576) + 14;
-    assert_eq!(rt;
+    assert_same(
+        &rt,
         fault_of(rt.alloc(), &image),
-        Some(ImageFault::Malformed(offset))
+        Some(ImageFault::Malformed(offset)),
     );
     Ok(())
 }

@@ -2,6 +2,7 @@
 ghost use Rattle.std.specs.Prelude.{◌≡◌, ◌<◌, IfSome, true};
 ghost use Rattle.checkpoint.specs.Kept.{count_of as kept_count_of};
 
+use crate::asserts::{assert_row, assert_same};
 use box_state::Mailbox;
 use checkpoint::{Opened, SlotFault, Slots};
 use outside::{Place, Shelf};
@@ -78,10 +79,10 @@ fn the_first_save_writes_207_bytes_to_a(rt: HostRuntime) -> Result<(), Fail> {
     let mut shelf = shelf_of(alloc, &[], &[], None)?;
     assert!(rt; save(alloc, &mut shelf, 2, M1_IMAGE));
     let whole = slot(alloc, 1, 2, M1_IMAGE)?;
-    assert_eq!(rt; shelf.bytes(Place::A), whole.as_slice());
-    assert_eq!(rt; shelf.bytes(Place::A).len(), 207);
-    assert_eq!(rt; shelf.bytes(Place::B).len(), 0);
-    assert_eq!(rt; shelf.bytes(Place::T).len(), 0);
+    assert_same(&rt, shelf.bytes(Place::A), whole.as_slice());
+    assert_same(&rt, shelf.bytes(Place::A).len(), 207);
+    assert_same(&rt, shelf.bytes(Place::B).len(), 0);
+    assert_same(&rt, shelf.bytes(Place::T).len(), 0);
     Ok(())
 }
 
@@ -117,9 +118,9 @@ fn a_save_closes_the_gate_fills_and_opens_it(rt: HostRuntime) -> Result<(), Fail
     let alloc = rt.alloc();
     let mut shelf = shelf_of(alloc, &[], &[], None)?;
     assert!(rt; save(alloc, &mut shelf, 2, TWO));
-    assert_eq!(rt; shelf.calls().len(), CALLS.len());
+    assert_same(&rt, shelf.calls().len(), CALLS.len());
     for (call, (did, place, at, len)) in shelf.calls().iter().zip(CALLS) {
-        assert_eq!(rt; *call, called(did, place, at, len));
+        assert_same(&rt, *call, called(did, place, at, len));
     }
     Ok(())
 }
@@ -130,10 +131,10 @@ fn what_was_saved_is_kept(rt: HostRuntime) -> Result<(), Fail> {
     let mut shelf = shelf_of(alloc, &[], &[], None)?;
     assert!(rt; save(alloc, &mut shelf, 2, M1_IMAGE));
     let (mailbox, position) = Slots::open(alloc, &mut shelf)?.kept.ok_or("nothing")?;
-    assert_eq!(rt; position.count, 2);
-    assert_eq!(rt; position.mbox, 126);
-    assert_eq!(rt; mailbox.me().bytes(), b"me@x.org".as_slice());
-    assert_eq!(rt; mailbox.items().len(), 1);
+    assert_same(&rt, position.count, 2);
+    assert_same(&rt, position.mbox, 126);
+    assert_same(&rt, mailbox.me().bytes(), b"me@x.org".as_slice());
+    assert_same(&rt, mailbox.items().len(), 1);
     Ok(())
 }
 
@@ -151,37 +152,46 @@ const DAMAGES: [(usize, u8, u64); 6] = [
 fn damage_has_its_place_and_its_offset(rt: HostRuntime) -> Result<(), Fail> {
     let alloc = rt.alloc();
     let whole = slot(alloc, 1, 2, TWO)?;
-    for (offset, byte, at) in DAMAGES {
+    for &(offset, byte, at) in &DAMAGES {
         let bytes = with_byte(alloc, &whole, offset, byte)?;
-        assert_eq!(rt;
+        assert_same(
+            &rt,
             kept_in(alloc, &bytes, &[])?,
-            Err(SlotFault::Damaged(Place::A, at))
+            Err(SlotFault::Damaged(Place::A, at)),
         );
-        assert_eq!(rt;
+        assert_same(
+            &rt,
             kept_in(alloc, &[], &bytes)?,
-            Err(SlotFault::Damaged(Place::B, at))
+            Err(SlotFault::Damaged(Place::B, at)),
         );
     }
     Ok(())
 }
 
+/// Whether these bytes are passed over in A and in B.
+fn is_passed_over(alloc: Global, bytes: &[u8]) -> Result<bool, Fail> {
+    Ok(kept_in(alloc, bytes, &[])? == Ok(None) && kept_in(alloc, &[], bytes)? == Ok(None))
+}
+
 #[test]
 fn a_slot_that_is_not_open_is_not_read(rt: HostRuntime) -> Result<(), Fail> {
     let alloc = rt.alloc();
-    let whole = slot(alloc, 1, 2, TWO)?;
-    let closed = slot(alloc, 0, 2, TWO)?;
-    let gate_7 = slot(alloc, 7, 2, TWO)?;
-    let no_image = slot(alloc, 1, 2, &[])?;
-    for bytes in [
-        b"".as_slice(),
-        b"\x01".as_slice(),
-        closed.as_slice(),
-        gate_7.as_slice(),
-        whole.split_last().ok_or("no byte")?.1,
-        no_image.split_last().ok_or("no byte")?.1,
-    ] {
-        assert_eq!(rt; kept_in(alloc, bytes, &[])?, Ok(None));
-        assert_eq!(rt; kept_in(alloc, &[], bytes)?, Ok(None));
+    assert!(rt; is_passed_over(alloc, b"")?);
+    assert!(rt; is_passed_over(alloc, b"\x01")?);
+    for gate in [0, 7] {
+        let bytes = slot(alloc, gate, 2, TWO)?;
+        assert_row(&rt, gate, is_passed_over(alloc, &bytes)?, true);
+    }
+    Ok(())
+}
+
+#[test]
+fn a_slot_that_lacks_a_byte_is_not_read(rt: HostRuntime) -> Result<(), Fail> {
+    let alloc = rt.alloc();
+    for image in [TWO, b"".as_slice()] {
+        let mut bytes = slot(alloc, 1, 2, image)?;
+        bytes.pop();
+        assert_row(&rt, image, is_passed_over(alloc, &bytes)?, true);
     }
     Ok(())
 }
@@ -191,25 +201,36 @@ fn what_follows_a_slot_is_not_read(rt: HostRuntime) -> Result<(), Fail> {
     let alloc = rt.alloc();
     let mut bytes = slot(alloc, 1, 2, TWO)?;
     bytes.extend_from_slice(b"and more")?;
-    assert_eq!(rt; kept_in(alloc, &bytes, &[])?, Ok(Some(2)));
+    assert_same(&rt, kept_in(alloc, &bytes, &[])?, Ok(Some(2)));
     Ok(())
 }
+
+/// A slot of a number with an image, open or broken.
+type Numbered = (u8, &'static [u8]);
+
+/// The slots in A and in B, and what is kept.
+const CHOICES: [(Numbered, Numbered, Result<Option<u64>, SlotFault>); 6] = [
+    ((2, NONE), (3, THREE), Ok(Some(3))),
+    ((3, THREE), (2, NONE), Ok(Some(3))),
+    ((2, TWO), (3, NONE), Err(SlotFault::Damaged(Place::B, 17))),
+    ((3, NONE), (2, TWO), Err(SlotFault::Damaged(Place::A, 17))),
+    ((2, TWO), (2, NONE), Ok(Some(2))),
+    ((2, NONE), (2, TWO), Err(SlotFault::Damaged(Place::A, 17))),
+];
 
 #[test]
 fn the_greater_number_is_chosen_and_a_where_they_are_equal(rt: HostRuntime) -> Result<(), Fail> {
     let alloc = rt.alloc();
-    let two = slot(alloc, 1, 2, TWO)?;
-    let three = slot(alloc, 1, 3, THREE)?;
-    let no_two = slot(alloc, 1, 2, NONE)?;
-    let no_three = slot(alloc, 1, 3, NONE)?;
-    let in_a = Err(SlotFault::Damaged(Place::A, 17));
-    let in_b = Err(SlotFault::Damaged(Place::B, 17));
-    assert_eq!(rt; kept_in(alloc, &no_two, &three)?, Ok(Some(3)));
-    assert_eq!(rt; kept_in(alloc, &three, &no_two)?, Ok(Some(3)));
-    assert_eq!(rt; kept_in(alloc, &two, &no_three)?, in_b);
-    assert_eq!(rt; kept_in(alloc, &no_three, &two)?, in_a);
-    assert_eq!(rt; kept_in(alloc, &two, &no_two)?, Ok(Some(2)));
-    assert_eq!(rt; kept_in(alloc, &no_two, &two)?, in_a);
+    for &((number, image), (other_number, other_image), expected) in &CHOICES {
+        let a = slot(alloc, 1, number, image)?;
+        let b = slot(alloc, 1, other_number, other_image)?;
+        assert_row(
+            &rt,
+            (number, other_number),
+            kept_in(alloc, &a, &b)?,
+            expected,
+        );
+    }
     Ok(())
 }
 
@@ -221,11 +242,12 @@ fn a_closed_gate_is_not_written_again(rt: HostRuntime) -> Result<(), Fail> {
         let two = slot(alloc, 1, 2, TWO)?;
         let mut shelf = shelf_of(alloc, &three, &two, None)?;
         assert!(rt; save(alloc, &mut shelf, 3, THREE));
-        assert_eq!(rt;
+        assert_same(
+            &rt,
             first_write(&shelf),
-            Some(called(Did::Write, Place::A, 1, 8))
+            Some(called(Did::Write, Place::A, 1, 8)),
         );
-        assert_eq!(rt; kept_count(alloc, &mut shelf), Ok(Some(3)));
+        assert_same(&rt, kept_count(alloc, &mut shelf), Ok(Some(3)));
     }
     Ok(())
 }
@@ -259,7 +281,7 @@ fn save_again(alloc: Global, shelf: &MemoryShelf, crash: Crash) -> Result<Option
 fn leaves_old_or_new(alloc: Global, run: Stopped<'_>, stop: u64) -> Result<bool, Fail> {
     let mut shelf = shelf_of(alloc, run.a, run.b, Some(stop))?;
     let saved = save(alloc, &mut shelf, 3, THREE);
-    for crash in CRASHES {
+    for &crash in &CRASHES {
         let count = save_again(alloc, &shelf, crash)?;
         if count != Some(3) && (saved || count != run.old) {
             return Ok(false);
@@ -336,24 +358,28 @@ fn torn_first_save(alloc: Global, stop: u64) -> Result<(Vec<u8>, Option<ShelfCal
 #[test]
 fn a_first_gate_byte_torn_to_1_is_no_slot(rt: HostRuntime) -> Result<(), Fail> {
     let (bytes, write) = torn_first_save(rt.alloc(), 8)?;
-    assert_eq!(rt; bytes.as_slice(), [1].as_slice());
-    assert_eq!(rt; write, Some(called(Did::Write, Place::A, 0, 1)));
+    assert_same(&rt, bytes.as_slice(), [1].as_slice());
+    assert_same(&rt, write, Some(called(Did::Write, Place::A, 0, 1)));
     Ok(())
 }
 
 #[test]
 fn a_torn_body_is_written_over_from_offset_1_on(rt: HostRuntime) -> Result<(), Fail> {
     let (bytes, write) = torn_first_save(rt.alloc(), 12)?;
-    assert_eq!(rt; bytes.first(), Some(&0));
-    assert_eq!(rt; bytes.get(1), Some(&1));
-    assert_eq!(rt; write, Some(called(Did::Write, Place::A, 1, 8)));
+    assert_same(&rt, bytes.first(), Some(&0));
+    assert_same(&rt, bytes.get(1), Some(&1));
+    assert_same(&rt, write, Some(called(Did::Write, Place::A, 1, 8)));
     Ok(())
 }
 
 #[test]
 fn a_shelf_that_fails_opens_nothing(rt: HostRuntime) -> Result<(), Fail> {
     let mut shelf = shelf_of(rt.alloc(), &[], &[], Some(6))?;
-    assert_eq!(rt; kept_count(rt.alloc(), &mut shelf), Err(SlotFault::Disk));
+    assert_same(
+        &rt,
+        kept_count(rt.alloc(), &mut shelf),
+        Err(SlotFault::Disk),
+    );
     Ok(())
 }
 
@@ -367,8 +393,9 @@ fn a_length_over_the_bound_is_damaged_at_9(rt: HostRuntime) {
         size: 1_073_741_842,
         head: LONG,
     };
-    assert_eq!(rt;
+    assert_same(
+        &rt,
         kept_count(rt.alloc(), &mut shelf),
-        Err(SlotFault::Damaged(Place::B, 9))
+        Err(SlotFault::Damaged(Place::B, 9)),
     );
 }

@@ -2,6 +2,7 @@
 ghost use Rattle.std.specs.Prelude.{◌≤◌, ◌^◌, IfOk};
 ghost use Rattle.tail_journal.specs.Tails.{IsGroup};
 
+use crate::asserts::{assert_row, assert_same};
 use mailbox_model::Change;
 use outside::Place;
 use shelves::{Crash, Did, MemoryShelf};
@@ -56,7 +57,7 @@ const ROOM: usize = 2_400;
 /// The group that is written by hand, with other bytes in the place of one field.
 fn group_with(alloc: Global, other: Field, bytes: &[u8]) -> Result<Vec<u8>, Fail> {
     let mut group = Vec::new(alloc);
-    for (field, usual) in FIELDS {
+    for &(field, usual) in &FIELDS {
         group.extend_from_slice(if field == other { bytes } else { usual })?;
     }
     Ok(group)
@@ -178,12 +179,12 @@ fn the_first_append_writes_48_bytes(rt: HostRuntime) -> Result<(), Fail> {
     let alloc = rt.alloc();
     let mut shelf = shelf_of(alloc, &[], None)?;
     let group = written_one(alloc, 3)?;
-    assert_eq!(rt; append(alloc, &mut shelf, 2, &group), Some(SIZE));
+    assert_same(&rt, append(alloc, &mut shelf, 2, &group), Some(SIZE));
     let by_hand = groups_from(alloc, &[2])?;
-    assert_eq!(rt; shelf.bytes(Place::T), by_hand.as_slice());
-    assert_eq!(rt; shelf.bytes(Place::T).len() as u64, SIZE);
-    assert_eq!(rt; shelf.bytes(Place::A).len(), 0);
-    assert_eq!(rt; shelf.bytes(Place::B).len(), 0);
+    assert_same(&rt, shelf.bytes(Place::T), by_hand.as_slice());
+    assert_same(&rt, shelf.bytes(Place::T).len() as u64, SIZE);
+    assert_same(&rt, shelf.bytes(Place::A).len(), 0);
+    assert_same(&rt, shelf.bytes(Place::B).len(), 0);
     Ok(())
 }
 
@@ -219,13 +220,13 @@ fn an_append_has_six_calls_and_a_clear_two(rt: HostRuntime) -> Result<(), Fail> 
     let alloc = rt.alloc();
     let mut shelf = shelf_of(alloc, &groups_from(alloc, &[2])?, None)?;
     let group = written_one(alloc, 4)?;
-    assert_eq!(rt; append(alloc, &mut shelf, 2, &group), Some(96));
-    assert_eq!(rt; clear(alloc, &mut shelf, 2), Some(0));
+    assert_same(&rt, append(alloc, &mut shelf, 2, &group), Some(96));
+    assert_same(&rt, clear(alloc, &mut shelf, 2), Some(0));
     assert!(rt; Tail::read(alloc, &mut shelf, None).is_ok());
-    assert_eq!(rt; shelf.calls().len(), CALLS.len());
+    assert_same(&rt, shelf.calls().len(), CALLS.len());
     for (call, (did, at, len)) in shelf.calls().iter().zip(CALLS) {
-        assert_eq!(rt; (call.did, call.place), (did, Place::T));
-        assert_eq!(rt; (call.at, call.len), (at, len));
+        assert_same(&rt, (call.did, call.place), (did, Place::T));
+        assert_same(&rt, (call.at, call.len), (at, len));
     }
     Ok(())
 }
@@ -252,12 +253,13 @@ const READINGS: [(&[u8], u64, (u64, usize, u64)); 12] = [
 #[test]
 fn groups_are_applied_from_their_base_on(rt: HostRuntime) -> Result<(), Fail> {
     let alloc = rt.alloc();
-    for (bases, from, (size, groups, count)) in READINGS {
+    for &(bases, from, (size, groups, count)) in &READINGS {
         let bytes = groups_from(alloc, bases)?;
-        assert_eq!(rt;
+        assert_row(
+            &rt,
+            (bases, from),
             find_in(alloc, &bytes, from)?,
             found(size, groups, count),
-            "{bases:?} from {from}"
         );
     }
     Ok(())
@@ -268,15 +270,15 @@ fn a_group_is_appended_after_one_that_is_held_already(rt: HostRuntime) -> Result
     let alloc = rt.alloc();
     let mut shelf = shelf_of(alloc, &groups_from(alloc, &[2])?, None)?;
     let group = written_one(alloc, 5)?;
-    assert_eq!(rt; append(alloc, &mut shelf, 4, &group), Some(96));
+    assert_same(&rt, append(alloc, &mut shelf, 4, &group), Some(96));
     let (tail, groups) = Tail::read(alloc, &mut shelf, Some(4))?;
-    assert_eq!(rt; (tail.size(), groups.len()), (96, 1));
+    assert_same(&rt, (tail.size(), groups.len()), (96, 1));
     let group = groups.first().ok_or("no group")?;
     let (at, _) = group.changes.first().ok_or("no change")?;
-    assert_eq!(rt; (group.position.count, *at), (5, 48 + 39));
+    assert_same(&rt, (group.position.count, *at), (5, 48 + 39));
     // From 2 there is a gap before it.
-    assert_eq!(rt; find(alloc, &mut shelf, 2), found(SIZE, 1, 3));
-    assert_eq!(rt; shelf.bytes(Place::T).len() as u64, SIZE);
+    assert_same(&rt, find(alloc, &mut shelf, 2), found(SIZE, 1, 3));
+    assert_same(&rt, shelf.bytes(Place::T).len() as u64, SIZE);
     Ok(())
 }
 
@@ -287,8 +289,8 @@ fn without_a_count_the_tail_is_cut_to_nothing(rt: HostRuntime) -> Result<(), Fai
     for bytes in [b"".as_slice(), b"\x09".as_slice(), both.as_slice()] {
         let mut shelf = shelf_of(alloc, bytes, None)?;
         let (tail, groups) = Tail::read(alloc, &mut shelf, None)?;
-        assert_eq!(rt; (tail.size(), groups.len()), (0, 0));
-        assert_eq!(rt; shelf.bytes(Place::T).len(), 0);
+        assert_same(&rt, (tail.size(), groups.len()), (0, 0));
+        assert_same(&rt, shelf.bytes(Place::T).len(), 0);
     }
     Ok(())
 }
@@ -310,19 +312,20 @@ const DAMAGES: [(Field, &[u8], u64); 8] = [
 #[test]
 fn damage_has_its_offset_where_the_group_is_to_be_applied(rt: HostRuntime) -> Result<(), Fail> {
     let alloc = rt.alloc();
-    for (field, bytes, at) in DAMAGES {
+    for &(field, bytes, at) in &DAMAGES {
         let group = group_with(alloc, field, bytes)?;
         let mut after_another = groups_from(alloc, &[1])?;
         after_another.extend_from_slice(&group)?;
         let damaged = Err(TailFault::Damaged(at));
         let damaged_later = Err(TailFault::Damaged(SIZE + at));
-        assert_eq!(rt; find_in(alloc, &group, 2)?, damaged, "{field:?}");
-        assert_eq!(rt;
+        assert_row(&rt, field, find_in(alloc, &group, 2)?, damaged);
+        assert_row(
+            &rt,
+            field,
             find_in(alloc, &after_another, 1)?,
             damaged_later,
-            "{field:?}"
         );
-        assert_eq!(rt; find_in(alloc, &group, 3)?, found(SIZE, 0, 3), "{field:?}");
+        assert_row(&rt, field, find_in(alloc, &group, 3)?, found(SIZE, 0, 3));
     }
     Ok(())
 }
@@ -345,12 +348,13 @@ const CUTS: [(u8, u64); 11] = [
 #[test]
 fn a_field_past_the_stated_length_is_short(rt: HostRuntime) -> Result<(), Fail> {
     let alloc = rt.alloc();
-    for (length, at) in CUTS {
+    for &(length, at) in &CUTS {
         let group = group_with(alloc, Field::Length, &[0, 0, 0, length])?;
-        assert_eq!(rt;
+        assert_row(
+            &rt,
+            length,
             find_in(alloc, &group, 2)?,
             Err(TailFault::Damaged(at)),
-            "{length}"
         );
     }
     Ok(())
@@ -361,7 +365,11 @@ fn nothing_follows_the_last_change(rt: HostRuntime) -> Result<(), Fail> {
     let alloc = rt.alloc();
     let mut group = group_with(alloc, Field::Length, &[0, 0, 0, 0x25])?;
     group.extend_from_slice(b"\x05\0")?;
-    assert_eq!(rt; find_in(alloc, &group, 2)?, Err(TailFault::Damaged(SIZE)));
+    assert_same(
+        &rt,
+        find_in(alloc, &group, 2)?,
+        Err(TailFault::Damaged(SIZE)),
+    );
     Ok(())
 }
 
@@ -370,18 +378,21 @@ fn a_count_that_passes_its_limit_is_damaged_at_the_base(rt: HostRuntime) -> Resu
     let alloc = rt.alloc();
     let mut groups = group_with(alloc, Field::Base, &(MAX_COUNT - 1).to_be_bytes())?;
     let last = group_with(alloc, Field::Base, &MAX_COUNT.to_be_bytes())?;
-    assert_eq!(rt;
+    assert_same(
+        &rt,
         find_in(alloc, &groups, MAX_COUNT - 1)?,
-        found(SIZE, 1, MAX_COUNT)
+        found(SIZE, 1, MAX_COUNT),
     );
-    assert_eq!(rt;
+    assert_same(
+        &rt,
         find_in(alloc, &last, MAX_COUNT)?,
-        Err(TailFault::Damaged(1))
+        Err(TailFault::Damaged(1)),
     );
     groups.extend_from_slice(&last)?;
-    assert_eq!(rt;
+    assert_same(
+        &rt,
         find_in(alloc, &groups, MAX_COUNT - 1)?,
-        Err(TailFault::Damaged(SIZE + 1))
+        Err(TailFault::Damaged(SIZE + 1)),
     );
     Ok(())
 }
@@ -397,15 +408,16 @@ const ENDS: [(Field, &[u8]); 4] = [
 #[test]
 fn reading_ends_before_a_group_that_is_not_open_or_not_whole(rt: HostRuntime) -> Result<(), Fail> {
     let alloc = rt.alloc();
-    for (field, bytes) in ENDS {
+    for &(field, bytes) in &ENDS {
         let group = group_with(alloc, field, bytes)?;
         let mut after_another = groups_from(alloc, &[1])?;
         after_another.extend_from_slice(&group)?;
-        assert_eq!(rt; find_in(alloc, &group, 2)?, found(0, 0, 2), "{field:?}");
-        assert_eq!(rt;
+        assert_row(&rt, field, find_in(alloc, &group, 2)?, found(0, 0, 2));
+        assert_row(
+            &rt,
+            field,
             find_in(alloc, &after_another, 1)?,
             found(SIZE, 1, 2),
-            "{field:?}"
         );
     }
     Ok(())
@@ -417,7 +429,7 @@ fn reading_ends_before_a_group_that_is_torn(rt: HostRuntime) -> Result<(), Fail>
     let both = groups_from(alloc, &[2, 3])?;
     for size in 48..96 {
         let torn = both.get(..size).ok_or("too few")?;
-        assert_eq!(rt; find_in(alloc, torn, 2)?, found(SIZE, 1, 3), "{size}");
+        assert_row(&rt, size, find_in(alloc, torn, 2)?, found(SIZE, 1, 3));
     }
     Ok(())
 }
@@ -480,11 +492,11 @@ fn one_change_and_256_are_read_back(rt: HostRuntime) -> Result<(), Fail> {
         lines: 32,
     };
     let mut one = appended(alloc, position, 1)?;
-    assert_eq!(rt; written(&one), 48 + 1);
+    assert_same(&rt, written(&one), 48 + 1);
     assert!(rt; is_read_back(alloc, &mut one, position, 1)?);
     let mut many = appended(alloc, position, 256)?;
-    assert_eq!(rt; written(&many), 39 + 256 * 9 + 1);
-    assert_eq!(rt; many.bytes(Place::T).get(9..39), Some(HEAD_OF_256));
+    assert_same(&rt, written(&many), 39 + 256 * 9 + 1);
+    assert_same(&rt, many.bytes(Place::T).get(9..39), Some(HEAD_OF_256));
     assert!(rt; is_read_back(alloc, &mut many, position, 256)?);
     Ok(())
 }
@@ -494,7 +506,7 @@ fn a_shelf_that_fails_reads_no_tail(rt: HostRuntime) -> Result<(), Fail> {
     let alloc = rt.alloc();
     for stop in 1..6 {
         let mut shelf = shelf_of(alloc, &groups_from(alloc, &[2])?, Some(stop))?;
-        assert_eq!(rt; find(alloc, &mut shelf, 2), Err(TailFault::Disk));
+        assert_same(&rt, find(alloc, &mut shelf, 2), Err(TailFault::Disk));
     }
     Ok(())
 }
@@ -540,7 +552,7 @@ fn leaves_first_or_both(alloc: Global, bytes: &[u8], stop: u64) -> Result<bool, 
     let mut shelf = shelf_of(alloc, bytes, Some(stop))?;
     let second = written_one(alloc, 4)?;
     let appended = append(alloc, &mut shelf, 2, &second).is_some();
-    for crash in CRASHES {
+    for &crash in &CRASHES {
         let left = append_again(alloc, &shelf, crash, &second)?;
         if left != BOTH && (appended || left != FIRST) {
             return Ok(false);
@@ -585,10 +597,14 @@ fn a_group_is_torn_after_a_closed_gate(rt: HostRuntime) -> Result<(), Fail> {
     // The sync after the rest of the group is refused.
     let mut shelf = shelf_of(alloc, &torn, Some(9))?;
     let second = written_one(alloc, 4)?;
-    assert_eq!(rt; append(alloc, &mut shelf, 2, &second), None);
+    assert_same(&rt, append(alloc, &mut shelf, 2, &second), None);
     torn.push(0)?;
     torn.extend_from_slice(&[1; 47])?;
-    assert_eq!(rt; shelf.crash(Crash::Ones)?.bytes(Place::T), torn.as_slice());
+    assert_same(
+        &rt,
+        shelf.crash(Crash::Ones)?.bytes(Place::T),
+        torn.as_slice(),
+    );
     Ok(())
 }
 
@@ -597,7 +613,7 @@ fn a_group_is_torn_after_a_closed_gate(rt: HostRuntime) -> Result<(), Fail> {
 fn leaves_nothing(alloc: Global, stop: u64, count: u64) -> Result<bool, Fail> {
     let mut shelf = shelf_of(alloc, &groups_from(alloc, &[2, 3])?, Some(stop))?;
     let cleared = clear(alloc, &mut shelf, 2).is_some();
-    for crash in CRASHES {
+    for &crash in &CRASHES {
         let left = find(alloc, &mut shelf.crash(crash)?, count)?;
         if left.groups != 0 || (cleared && left.size != 0) {
             return Ok(false);
@@ -623,7 +639,7 @@ fn nothing_is_applied_of_a_prefix_of_what_is_cleared(rt: HostRuntime) -> Result<
     for size in 0..=96 {
         let left = both.get(..size).ok_or("too few")?;
         let groups = find_in(alloc, left, 4)?.map(|reading| reading.groups);
-        assert_eq!(rt; groups, Ok(0), "{size}");
+        assert_row(&rt, size, groups, Ok(0));
     }
     Ok(())
 }

@@ -1,11 +1,11 @@
 //! Mails that are made by numbers.
 use crate::draws::{Draw, draw_for};
-use crate::made::{addr, id, plain, text};
 use card_type::{Attachment, Card, GroupId, Payload, Update};
 use kit::{Addr, Id, Text};
 use lists::Items;
 use std::alloc::Global;
 use std::test::Fail;
+use worked_values::{addr, id, plain, text};
 
 /// Oneself and six others.
 pub(super) const PEOPLE: [&str; 7] = [

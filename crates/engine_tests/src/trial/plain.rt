@@ -2,7 +2,6 @@
 //! mails.
 ghost use Rattle.std.specs.Prelude.{◌≤◌, IfOk, length};
 
-use crate::made::text;
 use box_state::Mailbox;
 use card_type::{Card, ChatKey, Kind, Spot, effect_of, kind_of};
 use chat_view::{RowMaker, body_of, page_name};
@@ -18,6 +17,7 @@ use std::str;
 use std::sync::ledger::Ledger;
 use std::test::Fail;
 use thread_links::cites_of;
+use worked_values::text;
 
 /// A present mail, with its chat where it is of kind Content.
 #[derive(Drop)]
