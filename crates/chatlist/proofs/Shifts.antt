@@ -1,5 +1,5 @@
 -- A chat of the order that gets another date and moves to its place.
-use Rattle.std.proofs.Common.{◌≡◌, ◌<◌, ◌≤◌, ◌⊎◌, sym, ap, ap₂, ◌∙◌, subst, ℕ, suc, ◌+◌, Option, Some, List, length, take, drop, get_or, slice_set, ◌++◌, length-set, true, false, inl, inr, arith}
+use Rattle.std.proofs.Common.{◌≡◌, ◌<◌, ◌≤◌, ◌⊎◌, sym, ap, ap₂, ◌∙◌, subst, ℕ, suc, ◌+◌, Option, Some, List, length, take, drop, get_or, true, false, inl, inr, arith}
 use Rattle.std.specs.BTreeMap.{is_at}
 use Rattle.std.specs.List.{AllByRecursion, insert, remove, zip}
 use Rattle.std.specs.List.Sorted.{IsStrictlySortedBy}
@@ -10,9 +10,11 @@ use Rattle.card_type.specs.declared.key.ChatKey.{ChatKey}
 use Rattle.card_type.specs.Keys.{key_cmp}
 use Rattle.mailbox_model.specs.ChatList.{Dated, dated_cmp}
 use Rattle.chatlist.specs.Places.{without_key, with_place}
+use Rattle.chatlist.specs.Dates.{IsDateFit}
 use Rattle.chatlist.specs.Orders.{IsPlaceOf}
+use Rattle.chatlist.proofs.Fits.{fits}
 use Rattle.chatlist.proofs.Kept.{IsKept, length_chats, kept_at, taken, take_out, kept_without, kept_with, put_in, absent_left, stands}
-use Rattle.chatlist.proofs.Turns.{whole, set_read, set_gone, place_before, place_after}
+use Rattle.chatlist.proofs.Turns.{place_before, place_after}
 use Rattle.chatlist.proofs.Zips.{zipped_at}
 
 -- the place among the others, of a place in a list with a chat at an index
@@ -69,33 +71,21 @@ module _ (ks : List ChatKey) (vs : List (Option ℕ)) {chats : List Dated} {key 
       ap (λ d. d.0) (sym (zipped_at ks vs from key before kept.0 from_within)) ∙ ap (λ ds. (get_or {A = Dated} ds from (key, before)).0) is
       ∙ ap (λ d. d.0) (stands key before chats from here (subst (IsStrictlySortedBy dated_cmp) is kept.1) at.before at.after)
 
-  set_dates : length (slice_set vs from date) ≡ length vs
-  set_dates = length-set vs from date
+  pub fits_left : IsDateFit date to (remove vs from)
+  fits_left = fits key date (remove ks from) (remove vs from) to stays.0 rest goes_left
 
-  pub from_within_set : from < length (slice_set vs from date)
-  from_within_set = omega (arith, from_within, set_dates, kept.0)
-
-  pub to_within_set : to < length (slice_set vs from date)
-  to_within_set = omega (arith, to_within, set_dates, kept.0)
-
-  -- after both lists were turned, and written back to vectors of n and m values
+  -- after both lists were turned
   module _ {turned_ks : List ChatKey} {turned_vs : List (Option ℕ)} (keys : turned_ks ≡ insert (remove ks from) to (get_or ks from key))
-      (dates : turned_vs ≡ insert (remove (slice_set vs from date) from) to (get_or (slice_set vs from date) from date))
-      {n m : ℕ} (keys_long : n ≡ length ks) (dates_long : m ≡ length vs) where
-    keys_are : take n (turned_ks ++ drop (length turned_ks) ks) ≡ insert (remove ks from) to key
-    keys_are = whole n ks turned_ks from to (get_or ks from key) keys from_within to_within keys_long ∙ keys ∙ ap (insert (remove ks from) to) key_there
+      (dates : turned_vs ≡ insert (remove vs from) to date) where
+    keys_are : turned_ks ≡ insert (remove ks from) to key
+    keys_are = keys ∙ ap (insert (remove ks from) to) key_there
 
-    dates_are : take m (turned_vs ++ drop (length turned_vs) (slice_set vs from date)) ≡ insert (remove vs from) to date
-    dates_are =
-        whole m (slice_set vs from date) turned_vs from to (get_or (slice_set vs from date) from date) dates from_within_set to_within_set (dates_long ∙ sym set_dates)
-        ∙ dates ∙ ap₂ (λ us v. insert us to v) (set_gone vs from date) (set_read vs from date)
-
-    pub shifted_kept : IsKept (take n (turned_ks ++ drop (length turned_ks) ks)) (take m (turned_vs ++ drop (length turned_vs) (slice_set vs from date)))
+    pub shifted_kept : IsKept turned_ks turned_vs
     shifted_kept =
-        rw (keys_are, dates_are)
+        rw (keys_are, dates)
         (kept_with (remove ks from) (remove vs from) (without_key key chats) key date to stays rest (absent_left key chats) to_left goes_left)
 
-    pub shifted : zip (take n (turned_ks ++ drop (length turned_ks) ks)) (take m (turned_vs ++ drop (length turned_vs) (slice_set vs from date))) ≡ with_place key date chats
+    pub shifted : zip turned_ks turned_vs ≡ with_place key date chats
     shifted =
-        ap₂ zip keys_are dates_are
+        ap₂ zip keys_are dates
         ∙ put_in (remove ks from) (remove vs from) (without_key key chats) key date to stays.0 rest (absent_left key chats) goes_left

@@ -1,3 +1,5 @@
--- What public clauses cite; `Orders` apart, which only the crate's own clauses cite.
+-- What public clauses cite; `Orders`, `Ends` and `Dates` apart, which only the crate's own clauses cite.
 pub mod Places
 pub mod Orders
+pub mod Ends
+pub mod Dates

@@ -49,12 +49,12 @@ impl ChatList {
         ensures ok { OnOk result (self.new ≡ with_place key.now last self.old) }
         ensures err { OnErr result (self.new ≡ self.old) }
     {
+        self.order.reserve()?;
         if let Ok(before) = self.dates.replace(key, last) {
             self.order.shift(key, before, last);
             return Ok(());
         }
         let own = key.copy()?;
-        self.order.reserve()?;
         self.dates.insert(key.copy()?, last)?;
         self.order.insert(own, last);
         Ok(())

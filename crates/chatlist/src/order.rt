@@ -1,7 +1,7 @@
 //! Chats in order, each with its date.
 ghost use Rattle.std.specs.Prelude.{◌≡◌, ◌<◌, ◌≤◌, ◌+◌, ◌⊎◌, true, None, Some, [], length, map, OnOk};
 ghost use Rattle.std.specs.BTreeMap.{is_at};
-ghost use Rattle.std.specs.List.{IsDistinct, insert, remove, slice_index_or};
+ghost use Rattle.std.specs.List.{IsDistinct};
 ghost use Rattle.std.specs.List.Sorted.{IsStrictlySortedBy};
 ghost use Rattle.std.specs.Map.{lookup};
 ghost use Rattle.std.specs.Ordering.{is_lt};
@@ -11,6 +11,8 @@ ghost use Rattle.mailbox_model.specs.ChatList.{dated_cmp};
 ghost use Rattle.chatlist.specs.Places.{with_place, without_key};
 ghost use Rattle.chatlist.specs.Orders.{IsPlaceOf, same_key};
 
+use crate::dates::Dates;
+use crate::two_ended::TwoEnded;
 use card_type::ChatKey;
 use kit::Memory;
 use std::alloc::Global;
@@ -21,29 +23,29 @@ use std::marker::Model;
 /// alone, so that they can be lent.
 #[derive(Drop)]
 pub(crate) struct Order {
-    keys: Vec<ChatKey>,
+    // With room at the front, since a chat that begins is most often among the latest.
+    keys: TwoEnded<ChatKey>,
     // The date of each, at the index of its key.
-    dates: Vec<Option<u64>>,
+    dates: Dates,
 }
 
 impl Model for Order {
-    ghost use Rattle.std.specs.Prelude.{◌≡◌, ◌&&◌, nat_lt, length};
+    ghost use Rattle.std.specs.Prelude.{◌≡◌, ◌&&◌, length};
     ghost use Rattle.std.specs.List.{zip, IsDistinct};
     ghost use Rattle.std.specs.List.Sorted.{IsStrictlySortedBy};
-    ghost use Rattle.std.specs.Vec.{vec_len, vec_capacity};
     ghost use Rattle.mailbox_model.specs.ChatList.{dated_cmp};
     ghost use Rattle.chatlist.specs.Orders.{Order, same_key};
 
     ghost Value = { Order };
 
     ghost view = { λ order. record {
-      chats = zip order.keys.items order.dates.items;
-      has_room = nat_lt (vec_len order.keys) (vec_capacity order.keys) && nat_lt (vec_len order.dates) (vec_capacity order.dates);
+      chats = zip order.keys.values order.dates.values;
+      has_room = order.keys.has_room && order.dates.has_room;
     } };
 
-    ghost invariant = { λ order. (length order.keys.items ≡ length order.dates.items)
-        × IsStrictlySortedBy dated_cmp (zip order.keys.items order.dates.items)
-        × IsDistinct same_key (zip order.keys.items order.dates.items) };
+    ghost invariant = { λ order. (length order.keys.values ≡ length order.dates.values)
+        × IsStrictlySortedBy dated_cmp (zip order.keys.values order.dates.values)
+        × IsDistinct same_key (zip order.keys.values order.dates.values) };
 }
 
 /// Whether a chat comes before another one: the later first, chats without a date last, and then by key.
@@ -65,27 +67,14 @@ fn place_without(place: usize, from: usize) -> usize
     if from < place { place - 1 } else { place }
 }
 
-/// Moves a value from one index to another one. Only the values between the two move with it.
-fn turn<T>(values: &mut [T], from: usize, to: usize)
-    requires from { from < length values.old }
-    requires to { to < length values.old }
-    ensures { (d : T) → values.new ≡ insert (remove values.old from) to (slice_index_or values.old from d) }
-{
-    if from < to {
-        values[from..to + 1].rotate_left(1);
-    } else {
-        values[to..from + 1].rotate_right(1);
-    }
-}
-
 impl Order {
     /// No chats. Takes no memory.
     pub(crate) fn new(alloc: Global) -> Self
         ensures { result.chats ≡ [] }
     {
         Order {
-            keys: Vec::new(alloc),
-            dates: Vec::new(alloc),
+            keys: TwoEnded::new(alloc),
+            dates: Dates::new(alloc),
         }
     }
 
@@ -95,7 +84,7 @@ impl Order {
         ensures sorted { IsStrictlySortedBy dated_cmp self.now.chats }
         ensures once { IsDistinct same_key self.now.chats }
     {
-        &self.keys
+        self.keys.as_slice()
     }
 
     /// Makes room for one more chat. Takes memory; `Err` only when it runs out.
@@ -103,9 +92,8 @@ impl Order {
         ensures room { OnOk result (self.new.has_room ≡ true) }
         ensures same { self.new.chats ≡ self.old.chats }
     {
-        self.keys.reserve(1)?;
-        self.dates.reserve(1)?;
-        Ok(())
+        self.keys.reserve()?;
+        self.dates.reserve()
     }
 
     /// The index of the first chat that does not come before this one, and the number of chats where there is none.
@@ -117,7 +105,7 @@ impl Order {
         let mut end = self.keys.len();
         while start < end {
             let middle = start + (end - start) / 2;
-            if is_before(&self.keys[middle], self.dates[middle], key, date) {
+            if is_before(self.keys.at(middle), self.dates.at(middle), key, date) {
                 start = middle + 1;
             } else {
                 end = middle;
@@ -133,10 +121,8 @@ impl Order {
         ensures { self.new.chats ≡ insert_by dated_cmp (key, date) self.old.chats }
     {
         let place = self.place_of(&key, date);
-        let inserted: Result<_, _> = self.keys.insert(place, key);
-        let _ = inserted.unwrap();
-        let inserted: Result<_, _> = self.dates.insert(place, date);
-        let _ = inserted.unwrap();
+        self.keys.insert(place, key);
+        self.dates.insert(place, date);
     }
 
     /// Takes out a chat that has this date. Takes no memory.
@@ -149,9 +135,11 @@ impl Order {
         self.dates.remove(place);
     }
 
-    /// Puts a chat that has the date `before` at the place that another date gives it. Takes no memory.
+    /// Puts a chat that has the date `before` at the place that another date gives it. Takes no memory: room for one was made
+    /// before.
     pub(crate) fn shift(&mut self, key: &ChatKey, before: Option<u64>, date: Option<u64>)
-        requires { lookup (is_at (key_cmp key.now)) self.old.chats ≡ Some before }
+        requires room { self.old.has_room ≡ true }
+        requires date { lookup (is_at (key_cmp key.now)) self.old.chats ≡ Some before }
         ensures { self.new.chats ≡ with_place key.now date self.old.chats }
     {
         // For its clauses `sorted` and `once`.
@@ -161,8 +149,7 @@ impl Order {
         }
         let from = self.place_of(key, before);
         let to = place_without(self.place_of(key, date), from);
-        self.dates[from] = date;
-        turn(&mut self.keys, from, to);
-        turn(&mut self.dates, from, to);
+        self.keys.turn(from, to);
+        self.dates.turn(from, to, date);
     }
 }

@@ -10,13 +10,16 @@ use Rattle.chatlist.proofs.Kept.{date_of, dates_with, nothing_left}
 use Rattle.chatlist.proofs.list.ChatList.set.Goals as goal
 
 -- the date before is that of the place which the chat has
-pub shift-requires : goal.shift-requires
-shift-requires c = date_of c.self.inside.dates c.self.inside.order.chats c.self.invariant c.args.key.now ∙ c.in-Ok.ensures.before
+pub shift-requires-clause-date : goal.shift-requires-clause-date
+shift-requires-clause-date c =
+    ap (lookup (is_at (key_cmp c.args.key.now))) c.reserve.ensures.same
+    ∙ date_of c.self.inside.dates c.self.inside.order.chats c.self.invariant c.args.key.now ∙ c.in-Ok.ensures.before
 
-pub invariant_of-self : goal.invariant_of-self
-invariant_of-self c =
-    c.in-Ok.ensures.ok ∙ dates_with c.self.inside.dates c.self.inside.order.chats c.self.invariant c.args.key.now c.args.last
-    ∙ ap map.from_entries (sym c.shift.ensures)
+pub invariant_of-self-in-Ok : goal.invariant_of-self-in-Ok
+invariant_of-self-in-Ok c =
+    let key = c.args.key.now in
+    let placed = c.shift.ensures ∙ ap (with_place key c.args.last) c.reserve.ensures.same in
+    c.in-Ok.ensures.ok ∙ dates_with c.self.inside.dates c.self.inside.order.chats c.self.invariant key c.args.last ∙ ap map.from_entries (sym placed)
 
 pub insert-requires-2-clause-absent : goal.insert-requires-2-clause-absent
 insert-requires-2-clause-absent c =

@@ -5,4 +5,4 @@ use Rattle.chatlist.proofs.order.Order.new.Goals as goal
 
 pub invariant_of-result : goal.invariant_of-result
 unfolding IsStrictlySortedBy IsDistinct
-invariant_of-result c = rw (c.new.ensures.items, c.new-2.ensures.items) (refl, tt, tt)
+invariant_of-result c = rw (c.new.ensures, c.new-2.ensures) (refl, tt, tt)
