@@ -1,8 +1,10 @@
 -- What a map by address has at an address, where it is read or changed.
-use Rattle.std.proofs.Common.{◌≡◌, refl, sym, ap, ◌∙◌, ℕ, ◌+◌, ◌-◌, Bool, true, false, cond, Option, Some, List, [], ◌∷◌, ◌++◌, ◌<◌, length, take, get_or, arith}
-use Rattle.std.specs.Ordering.{nat_cmp}
+use Rattle.std.proofs.Common.{◌≡◌, refl, sym, ap, ◌∙◌, ℕ, ◌+◌, ◌-◌, Bool, true, false, cond, Option, Some, Result, Ok, Err, List, [], ◌∷◌, ◌++◌, ◌<◌, length, take, get_or, arith}
+use Rattle.std.specs.Ordering.{is_eq, nat_cmp}
+use Rattle.std.specs.declared.cmp.Ordering.TheVariants.{Equal}
 use Rattle.std.specs.List.{count_by}
-use Rattle.std.specs.Option.{unwrap_or}
+use Rattle.std.specs.Option.{unwrap_or, IfSome}
+use Rattle.std.specs.Result.{IfOk, result_ok}
 use Rattle.std.specs.Cmp.Lexicographic.{slice_cmp, bytes_decides}
 use Rattle.std.specs.Map.{lookup}
 use Rattle.std.specs.BTreeMap.{is_at}
@@ -31,6 +33,15 @@ names_of names = unwrap_or names []
 pub looked : {V : Type 0} (es : List (Bytes × V)) (addr : Bytes) → lookup (at addr) es ≡ lookup (bytes_eq addr) es
 looked [] addr = refl
 looked (e ∷ es) addr = λ i. cond (is_eq-slice_cmp addr e.0 i) (Some e.1) (looked es addr i)
+
+-- and ties only these
+pub equal : (addr other : Bytes) → slice_cmp nat_cmp addr other ≡ Equal → other ≡ addr
+equal addr other ties = sym ((bytes_decides addr other).0 (sym (is_eq-slice_cmp addr other) ∙ ap is_eq ties))
+
+-- what holds of an answer holds of it where the error is let go
+pub kept_if_ok : {X E : Type 0} (P : X → Type 0) (r : Result X E) → IfOk r P → IfSome (result_ok r) P
+kept_if_ok P (Ok x) has = has
+kept_if_ok P (Err e) has = tt
 
 -- another value, or none, for one address
 module _ {V : Type 0} (es fs : List (Bytes × V)) (addr : Bytes) (value : Option V)

@@ -47,6 +47,14 @@ impl Contacts {
         }
     }
 
+    /// Lets the addresses of a card share their bytes with those that are kept. The card stays as it is. Takes no memory, and
+    /// time that grows with the number of its addresses, and with the logarithm of what is kept.
+    pub fn share(&self, card: &mut Card)
+        ensures { card.new ≡ card.old }
+    {
+        self.mentions.share(card);
+    }
+
     /// Adds a card at a spot where none is. Takes memory; `Err` only when it runs out, and after it the contacts may only be
     /// dropped. Takes time that grows with the number of addresses of the card, and with the logarithm of what is kept.
     ///

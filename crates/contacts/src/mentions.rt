@@ -1,5 +1,5 @@
 //! How often each address is mentioned.
-ghost use Rattle.std.specs.Prelude.{◌≡◌, ◌+◌, ◌-◌, ◌&&◌, nat_lt, not, ℕ, List, false, IfOk, OnOk};
+ghost use Rattle.std.specs.Prelude.{◌≡◌, ◌+◌, ◌-◌, ◌&&◌, nat_lt, not, ℕ, List, false, IfOk, IfSome, OnOk};
 ghost use Rattle.std.specs.Cmp.Lexicographic.{slice_cmp};
 ghost use Rattle.std.specs.List.{count_by};
 ghost use Rattle.std.specs.List.Sorted.{IsStrictlySortedBy};
@@ -11,6 +11,7 @@ ghost use Rattle.contacts.specs.Kept.{mentions_at, times_in};
 
 use card_type::Card;
 use kit::{Addr, Memory};
+use lists::Items;
 use std::alloc::Global;
 use std::collections::BTreeMap;
 use std::marker::Model;
@@ -68,6 +69,47 @@ impl Mentions {
             }
         }
         Ok(addrs)
+    }
+
+    /// An address as it is kept: `None` where it is not mentioned. Takes no memory.
+    fn kept(&self, addr: &Addr) -> Option<Addr>
+        ensures { IfSome result (λ kept. kept ≡ addr.now) }
+    {
+        let (kept, _) = self.counts.get_key_value(addr)?;
+        kept.copy().ok()
+    }
+
+    /// Puts the address that is kept in place of the one at an index, where it is mentioned.
+    fn share_at(&self, addrs: &mut Items<Addr>, index: usize)
+        ensures { addrs.new ≡ addrs.old }
+    {
+        let Some(addr) = addrs.as_slice().get(index) else {
+            return;
+        };
+        if let Some(kept) = self.kept(addr) {
+            addrs.set(index, kept);
+        }
+    }
+
+    /// Puts those that are kept in place of these, where they are mentioned.
+    fn share_each(&self, addrs: &mut Items<Addr>)
+        ensures { addrs.new ≡ addrs.old }
+    {
+        for index in 0..addrs.len() {
+            self.share_at(addrs, index);
+        }
+    }
+
+    /// Puts the addresses that are kept in place of those of a card, which stays as it is: they share their bytes. Takes no
+    /// memory.
+    pub(crate) fn share(&self, card: &mut Card)
+        ensures { card.new ≡ card.old }
+    {
+        if let Some(kept) = self.kept(&card.from) {
+            card.from = kept;
+        }
+        self.share_each(&mut card.to);
+        self.share_each(&mut card.cc);
     }
 
     /// Counts one mention more of an address, up to 2^64 - 1. Takes memory; `Err` only when it runs out.
