@@ -1,17 +1,17 @@
 //! Runs over one shelf, of which each goes on from what the one before kept: the bytes on the shelf, and what is put.
 use crate::asserts::{assert_row, assert_same};
-use crate::rows::{CHATS, COPY, MEMBERS, PARENT, Row, TIMER, mbox_of};
-use crate::runs::{
-    DISK, LIST, M1, M1_LINE, NEVER, READ, ROOM, empty_shelf, ended_by, ended_over, shelf_with,
-    source,
-};
+use crate::rows::{CHATS, COPY, MEMBERS, PARENT, Row, TIMER};
+use crate::runs::{DISK, LIST, M1, M1_LINE, READ, ended_by, ended_over};
 use follow::Status;
 use outside::{FixedClock, Place};
 use shelves::{Crash, Did, MemoryShelf, ShelfCall};
 use std::alloc::Global;
 use std::process::Abort;
 use std::test::Fail;
-use worked_state::{CRASHES, M1_IMAGE, first_write, slot, with_byte};
+use worked_mails::mbox_of;
+use worked_state::{
+    CRASHES, M1_IMAGE, NEVER, ROOM, empty_shelf, first_write, shelf_with, slot, source, with_byte,
+};
 
 /// How many calls of the shelf a run makes that finds nothing and commits once.
 const CALLS: u64 = 18;

@@ -1,15 +1,8 @@
-//! Tests of the keeper, of the follower, of trials, of whole runs, and of runs that go on from what is kept. It has no code of
-//! its own.
+//! Tests of trials, of whole runs, and of runs that go on from what is kept. It has no code of its own.
 #![tactic(auto)]
 
 #[cfg(test)]
 mod asserts;
-#[cfg(test)]
-mod commits;
-#[cfg(test)]
-mod following;
-#[cfg(test)]
-mod full_tail;
 #[cfg(test)]
 mod kept;
 #[cfg(test)]

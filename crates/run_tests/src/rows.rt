@@ -1,11 +1,12 @@
 //! Whole runs on the worked mails: mails and steps, what is asked after them, and what is put.
 use crate::asserts::assert_same;
-use crate::runs::{empty_shelf, ended_over};
+use crate::runs::ended_over;
 use follow::Status;
 use std::alloc::Global;
 use std::process::Abort;
 use std::test::Fail;
 use worked_mails::*;
+use worked_state::empty_shelf;
 
 /// Mails of an mbox, a steps file, the words of the command, and what is put.
 pub type Row = (
@@ -313,17 +314,6 @@ pub const CHATS: [Row; 5] = [
         "ann@x.org | Ann\nbob@x.org | Bob\n",
     ),
 ];
-
-/// An mbox of these mails.
-pub fn mbox_of(alloc: Global, mails: &[&str]) -> Result<String, Fail> {
-    let mut mbox = String::new(alloc);
-    for mail in mails {
-        mbox.push_str("From -\n")?;
-        mbox.push_str(mail)?;
-        mbox.push('\n')?;
-    }
-    Ok(mbox)
-}
 
 /// How a run of these words over these mails and steps ends, and what it puts, where nothing is kept.
 pub fn ended_on(

@@ -5,11 +5,11 @@ use crate::asserts::assert_same;
 use follow::{Status, run};
 use kit::{Steps, Text};
 use outside::{Clock, FixedClock, MemorySink, MemorySource, Shelf};
-use shelves::MemoryShelf;
 use std::alloc::Global;
 use std::marker::Brand;
 use std::sync::ledger::{Blank, Ledger};
 use std::test::Fail;
+use worked_state::{NEVER, empty_shelf, source};
 
 /// The list at 2024-05-01 12:00 UTC.
 pub const LIST: [&str; 5] = ["--me", "me@x.org", "--at", "1714564800", "list"];
@@ -23,42 +23,12 @@ pub const DISK: &str = "chats: disk fault\n";
 
 pub const READ: &str = "chats: read fault: mbox\n";
 
-/// The number of a call that there is not.
-pub const NEVER: u64 = 0;
-
-/// The number of bytes for which each place of a shelf has room.
-pub const ROOM: usize = 5_000;
-
 fn texts(alloc: Global, words: &[&str]) -> Result<Vec<Text>, Fail> {
     let mut texts = Vec::new(alloc);
     for word in words {
         texts.push(Text::from(String::from_str(alloc, word)?))?;
     }
     Ok(texts)
-}
-
-pub fn source(alloc: Global, bytes: &str, fails: u64) -> Result<MemorySource, Fail> {
-    Ok(MemorySource::new(bytes.as_bytes().to_vec(alloc)?, [fails].to_vec(alloc)?))
-}
-
-/// A shelf that has such a content in A and nothing else, with room for 128 calls. The call with the number `fails` fails, and
-/// all from the number `stop` on.
-pub fn shelf_with(
-    alloc: Global,
-    a: &[u8],
-    fails: u64,
-    stop: Option<u64>,
-) -> Result<MemoryShelf, Fail> {
-    if a.len() > ROOM {
-        return Err(Fail::from("no room"));
-    }
-    let fails = [fails].to_vec(alloc)?;
-    Ok(MemoryShelf::new(alloc, a, &[], &[], ROOM, 128, fails, stop)?)
-}
-
-/// A shelf in which nothing is kept, and whose calls don't fail.
-pub fn empty_shelf(alloc: Global) -> Result<MemoryShelf, Fail> {
-    shelf_with(alloc, &[], NEVER, None)
 }
 
 fn run_counted<H: Shelf, C: Clock, L: Ledger>(

@@ -1,11 +1,11 @@
 //! Runs by a steps file: the lines that are steps, and where a run stops that can't follow one.
 use crate::asserts::{assert_row, assert_same};
-use crate::rows::{BOB, ended_on, mbox_of};
-use crate::runs::{NEVER, ended, ended_over, source};
+use crate::rows::{BOB, ended_on};
+use crate::runs::{ended, ended_over};
 use follow::Status;
 use std::test::Fail;
-use worked_mails::{M1, T1};
-use worked_state::Hollow;
+use worked_mails::{M1, T1, mbox_of};
+use worked_state::{Hollow, NEVER, source};
 
 const LIST: [&str; 3] = ["--me", "me@x.org", "list"];
 

@@ -1,12 +1,12 @@
 //! Runs of three commits that are stopped in one of them, and made again over what a crash leaves.
 use crate::asserts::{assert_row, assert_same};
-use crate::runs::{DISK, LIST, NEVER, ended_over};
+use crate::runs::{DISK, LIST, ended_over};
 use follow::Status;
 use shelves::MemoryShelf;
 use std::alloc::Global;
 use std::process::Abort;
 use std::test::Fail;
-use worked_state::CRASHES;
+use worked_state::{CRASHES, NEVER};
 
 /// Calls of the shelf in each commit of a run of three, a save and two appends: the sync behind a closed gate, and that of
 /// the gate when it is opened.

@@ -2,7 +2,6 @@
 ghost use Rattle.std.specs.Prelude.{◌≡◌, ◌<◌};
 
 use crate::asserts::assert_same;
-use crate::runs::NEVER;
 use box_maker::{box_bytes, make_box};
 use kit::{Addr, Steps};
 use outside::{MemorySink, PrintFault};
@@ -11,6 +10,7 @@ use std::marker::Brand;
 use std::sync::ledger::{Blank, Ledger};
 use std::test::Fail;
 use trial::{TrialFault, print_trial};
+use worked_state::NEVER;
 
 /// The first 20 mails of 2,000 that the number 7 draws for `me@box.example`. They were made by another program.
 const FIRST_MAILS: &str = "\

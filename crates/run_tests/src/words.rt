@@ -2,12 +2,13 @@
 ghost use Rattle.std.specs.Prelude.{⊤, None};
 
 use crate::asserts::{assert_row, assert_same};
-use crate::runs::{M1, M1_LINE, NEVER, answered, empty_shelf, ended_by, source};
+use crate::runs::{M1, M1_LINE, answered, ended_by};
 use follow::Status;
 use kit::LAST_MOMENT;
-use outside::{Clock, FixedClock, NoShelf};
+use outside::{Clock, NoShelf};
 use std::alloc::Global;
 use std::test::Fail;
+use worked_state::{NEVER, empty_shelf, source};
 
 const USAGE: &str =
     "chats: usage: --me ADDR [--at N] list | chat KEY | contacts | updates ID [--info] | trial N\n";

@@ -1,5 +1,8 @@
-//! The mails of the worked rows, byte by byte.
+//! The mails of the worked rows, byte by byte, and an mbox of mails.
 #![tactic(auto)]
+
+use std::alloc::Global;
+use std::test::Fail;
 
 /// A mail to oneself.
 pub const M1: &str = "\
@@ -438,3 +441,14 @@ pub const C1: &str = "\
      \n\
      Version: 1\n\
      --e--\n";
+
+/// An mbox of these mails. `Err` only when memory runs out.
+pub fn mbox_of(alloc: Global, mails: &[&str]) -> Result<String, Fail> {
+    let mut mbox = String::new(alloc);
+    for mail in mails {
+        mbox.push_str("From -\n")?;
+        mbox.push_str(mail)?;
+        mbox.push('\n')?;
+    }
+    Ok(mbox)
+}
