@@ -1,7 +1,6 @@
 -- Why a change was not made.
-use Rattle.std.proofs.Common.{◌≡◌, sym, ap, ◌∙◌, subst, Bool, List, Result, Ok, Err}
+use Rattle.std.proofs.Common.{◌≡◌, sym, ap, ◌∙◌, subst, Bool, Result, Err}
 use Rattle.std.specs.Prelude.{MatchResult}
-use Rattle.card_type.specs.declared.key.ChatKey.{ChatKey}
 use Rattle.mailbox_model.specs.declared.change.Change.{Change}
 use Rattle.mailbox_model.specs.Mailbox.{Mailbox}
 use Rattle.engine.specs.declared.fault.ApplyFault.{ApplyFault}

@@ -121,34 +121,6 @@ impl Engine {
         ensures cost { steps.new ≤ steps.old + change_cost self.old.mailbox change }
     {
         let change = self.with_kept_addresses(change);
-        self.follow(change, steps)
-    }
-
-    /// The same change. Where a card arrives, its addresses share their bytes with those that are kept, so that the mails of
-    /// the same people take less memory, and their addresses are compared where the bytes are at hand.
-    fn with_kept_addresses(&self, change: Change) -> Change
-        ensures { result ≡ change }
-    {
-        match change {
-            Change::Arrive(mut card) => {
-                self.indexes.contacts.share(&mut card);
-                Change::Arrive(card)
-            }
-            other => other,
-        }
-    }
-
-    /// Does what `apply` says.
-    fn follow<L: Ledger>(&mut self, change: Change, steps: &mut Steps<L>) -> Result<(), ApplyFault>
-        requires { IsValidChange change }
-        ensures mailbox { OnOk result (self.new.mailbox ≡ after self.old.mailbox change) }
-        ensures touched { OnOk result (AreTouched self.old.mailbox change self.new.touched) }
-        ensures fresh { OnOk result (self.new.stale ≡ false) }
-        ensures stale { self.old.stale ≡ true → IsErrOf result ApplyFault.Stale }
-        ensures full { self.old.stale ≡ false → full self.old.mailbox change ≡ true → IsErrOf result ApplyFault.Full }
-        ensures cause { IfErr result (IsApplyCause self.old change self.new) }
-        ensures cost { steps.new ≤ steps.old + change_cost self.old.mailbox change }
-    {
         let repaired = repair_for(
             self.alloc,
             &mut self.stale,
@@ -165,6 +137,20 @@ impl Engine {
                 Ok(())
             }
             Err(fault) => Err(fault),
+        }
+    }
+
+    /// The same change. Where a card arrives, its addresses share their bytes with those that are kept, so that the mails of
+    /// the same people take less memory, and their addresses are compared where the bytes are at hand.
+    fn with_kept_addresses(&self, change: Change) -> Change
+        ensures { result ≡ change }
+    {
+        match change {
+            Change::Arrive(mut card) => {
+                self.indexes.contacts.share(&mut card);
+                Change::Arrive(card)
+            }
+            other => other,
         }
     }
 

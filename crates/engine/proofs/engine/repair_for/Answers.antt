@@ -1,4 +1,4 @@
-use Rattle.std.proofs.Common.{ap, subst, ◌≤◌, ◌+◌}
+use Rattle.std.proofs.Common.{subst, ◌≤◌, ◌+◌}
 use Rattle.touched_chats.specs.Costs.{change_cost}
 use Rattle.engine.proofs.engine.repair_for.Goals as goal
 
