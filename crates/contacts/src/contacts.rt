@@ -48,7 +48,8 @@ impl Contacts {
     }
 
     /// Lets the addresses of a card share their bytes with those that are kept. The card stays as it is. Takes no memory, and
-    /// time that grows with the number of its addresses, and with the logarithm of what is kept.
+    /// time that grows with the number of its addresses, and with the logarithm of what is kept. That they share is not said
+    /// by a clause, since a contract sees the bytes and not where they stand: it is only measured.
     pub fn share(&self, card: &mut Card)
         ensures { card.new ≡ card.old }
     {
