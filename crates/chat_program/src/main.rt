@@ -25,6 +25,8 @@ const SLOT_B: &str = "box.b";
 
 const TAIL: &str = "box.tail";
 
+const NULL: &str = "/dev/null";
+
 /// The words after the program's name. Where one of them is no text there are none, which is no command.
 fn words<R: Env + AllocGlobal>(rt: &R) -> Result<Vec<Text>, Memory> {
     let mut words = Vec::new(rt.alloc());
@@ -39,8 +41,16 @@ fn words<R: Env + AllocGlobal>(rt: &R) -> Result<Vec<Text>, Memory> {
     Ok(words)
 }
 
+/// A file in which nothing is, to stand where a standard descriptor is closed.
+fn open_null<R: Files>(rt: &R) -> Result<R::File, Memory> {
+    match fs::open(rt, NULL) {
+        Ok(file) => Ok(file),
+        Err(_) => Err(Memory),
+    }
+}
+
 /// The steps file, if it is there. Where that can't be known, a source of which each call fails.
-fn steps_file<R: Files>(rt: &R) -> Result<Option<FileSource<R::File>>, Memory> {
+fn steps_file<R: Files>(rt: &R) -> Result<Option<FileSource<'_, R>>, Memory> {
     match fs::exists(rt, STEPS) {
         Ok(false) => Ok(None),
         Ok(true) => Ok(Some(FileSource::open(rt, STEPS)?)),
@@ -48,7 +58,10 @@ fn steps_file<R: Files>(rt: &R) -> Result<Option<FileSource<R::File>>, Memory> {
     }
 }
 
-/// Opens the devices and runs the words over them. `Memory` comes where there is none for the words or the devices.
+/// Makes the devices and runs the words over them. A file is opened at the first call of its device, so words that follow no
+/// mailbox open none.
+///
+/// `Memory` comes where there is none for the words or the devices, or where `/dev/null` can't be opened.
 fn start<R: Files + Env + Clock + Print + AllocGlobal, L: Ledger>(
     rt: &R,
     blank: Blank,
@@ -57,6 +70,9 @@ fn start<R: Files + Env + Clock + Print + AllocGlobal, L: Ledger>(
     requires whole { blank.parts ≡ L.parts }
     requires some { 0 < blank.parts }
 {
+    // What is opened gets the lowest free descriptor. While these are held no file of ours stands on descriptor 0, 1 or 2, so
+    // where the program is started with one of them closed, the answer still goes into no file.
+    let _standard = [open_null(rt)?, open_null(rt)?, open_null(rt)?];
     let mut count = Steps::<L>::open(blank);
     let words = words(rt)?;
     let mut mbox = FileSource::open(rt, MBOX)?;

@@ -3,15 +3,15 @@ ghost use Rattle.std.specs.Prelude.{◌≡◌, ◌<◌, length, IfOk, IsOk, IsEr
 ghost use Rattle.std.specs.Io.{ReadsAtMost};
 ghost use Rattle.outside.specs.Causes.{HasCause};
 
-use crate::place_file::{PlaceFile, cut_to, open_file, read_at, size_of, sync_file, write_at};
+use crate::place_file::{PlaceFile, cut_to, open_first, read_at, size_of, sync_file, write_at};
 use kit::Memory;
 use outside::{Failed, FaultCount, Place, Shelf};
 use std::rt::Files;
 
 /// Three files by their names. No contents are known, since no clause can say what the system keeps.
 ///
-/// A file that is absent has size 0 and is made at its first write. Until then a sync of it, and a cut to 0, do
-/// nothing. Of a file that is there and can't be opened each call fails.
+/// A file is opened at the first call on its place. One that is absent has size 0 and is made at its first write. Until then
+/// a sync of it, and a cut to 0, do nothing. Of one that is there and can't be opened, or is no regular file, each call fails.
 #[derive(Drop)]
 pub struct FileShelf<'a, R: Files> {
     rt: &'a R,
@@ -32,19 +32,21 @@ struct PlaceFiles<F> {
 }
 
 impl<'a, R: Files> FileShelf<'a, R> {
-    /// The files of these names. It makes none of them.
+    ghost use Rattle.shelves.specs.FileShelf.{IsAbsent, IsBroken, OtherFilesStay};
+
+    /// The files of these names. Nothing is opened yet.
     ///
-    /// `Memory` comes where there was no memory to open one.
-    // No clause can say which file can be opened, so this body is tested.
+    /// `Memory` comes where the shelf gets no memory of its own. The present one takes none.
+    // No clause rules that answer out, so that a later shelf may have a buffer.
     pub fn open(rt: &'a R, a: &'a str, b: &'a str, t: &'a str) -> Result<FileShelf<'a, R>, Memory>
         ensures { IfOk result (λ shelf. ⟦<FileShelf<'a, R> as Shelf>⟧.faults shelf ≡ 0) }
     {
         Ok(FileShelf {
             rt,
             files: PlaceFiles {
-                a: open_file(rt, a)?,
-                b: open_file(rt, b)?,
-                t: open_file(rt, t)?,
+                a: PlaceFile::Unopened,
+                b: PlaceFile::Unopened,
+                t: PlaceFile::Unopened,
             },
             a_name: a,
             b_name: b,
@@ -52,6 +54,21 @@ impl<'a, R: Files> FileShelf<'a, R> {
             written: 0,
             faults: FaultCount::new(),
         })
+    }
+
+    // Opens the file of the place where that was not tried so far.
+    fn open_first(&mut self, place: Place)
+        ensures absent { IsAbsent place self.old.files → IsAbsent place self.new.files }
+        ensures broken { IsBroken place self.old.files → IsBroken place self.new.files }
+        ensures others { OtherFilesStay place self.old.files self.new.files }
+        ensures written { self.new.written ≡ self.old.written }
+        ensures faults { self.new.faults ≡ self.old.faults }
+    {
+        match place {
+            Place::A => open_first(self.rt, self.a_name, &mut self.files.a),
+            Place::B => open_first(self.rt, self.b_name, &mut self.files.b),
+            Place::T => open_first(self.rt, self.t_name, &mut self.files.t),
+        }
     }
 
     // Counts a fault where there is no answer.
@@ -93,6 +110,7 @@ impl<'a, R: Files> Shelf for FileShelf<'a, R> {
         ensures others { OtherFilesStay place self.old.files self.new.files }
         ensures written { self.new.written ≡ self.old.written }
     {
+        self.open_first(place);
         let answer = match place {
             Place::A => size_of(&self.files.a),
             Place::B => size_of(&self.files.b),
@@ -111,6 +129,7 @@ impl<'a, R: Files> Shelf for FileShelf<'a, R> {
         ensures others { OtherFilesStay place self.old.files self.new.files }
         ensures written { self.new.written ≡ self.old.written }
     {
+        self.open_first(place);
         let answer = match place {
             Place::A => read_at(&mut self.files.a, at, buf),
             Place::B => read_at(&mut self.files.b, at, buf),
@@ -126,6 +145,7 @@ impl<'a, R: Files> Shelf for FileShelf<'a, R> {
         ensures others { OtherFilesStay place self.old.files self.new.files }
         ensures written { RisesUpTo (length bytes.now) self.old.written self.new.written }
     {
+        self.open_first(place);
         let answer = match place {
             Place::A => write_at(self.rt, self.a_name, &mut self.files.a, at, bytes),
             Place::B => write_at(self.rt, self.b_name, &mut self.files.b, at, bytes),
@@ -145,6 +165,7 @@ impl<'a, R: Files> Shelf for FileShelf<'a, R> {
         ensures others { OtherFilesStay place self.old.files self.new.files }
         ensures written { self.new.written ≡ self.old.written }
     {
+        self.open_first(place);
         let answer = match place {
             Place::A => cut_to(&self.files.a, size),
             Place::B => cut_to(&self.files.b, size),
@@ -162,6 +183,7 @@ impl<'a, R: Files> Shelf for FileShelf<'a, R> {
         ensures others { OtherFilesStay place self.old.files self.new.files }
         ensures written { self.new.written ≡ self.old.written }
     {
+        self.open_first(place);
         let answer = match place {
             Place::A => sync_file(&self.files.a),
             Place::B => sync_file(&self.files.b),

@@ -1,31 +1,38 @@
 //! The three files of a shelf of files.
-ghost use Rattle.std.specs.Prelude.{◌≡◌, ◌≤◌, ◌<◌, length, IfSome, OnSome, IsSome, Some, None};
+ghost use Rattle.std.specs.Prelude.{◌≡◌, ◌≢◌, ◌≤◌, ◌<◌, length, IfSome, OnSome, IsSome, Some, None};
 ghost use Rattle.std.specs.Io.KnownBytes.{Appends};
-ghost use Rattle.shelves.specs.declared.place_file.PlaceFile.TheVariants.{Absent, Broken};
+ghost use Rattle.shelves.specs.declared.place_file.PlaceFile.TheVariants.{Unopened, Absent, Broken};
 
-use kit::Memory;
+use outside::open_regular;
 use std::fs::{OpenFile, OpenOptions};
 use std::io::{ErrorKind, Read, Seek, SeekFrom, Write};
 use std::rt::Files;
 
-/// A file that is open, or is absent so far, or can't be opened.
+/// A file that was not opened so far, is open, is absent so far, or can't be opened.
 #[derive(Drop)]
 pub enum PlaceFile<F> {
+    Unopened,
     Open(F),
     Absent,
     Broken,
 }
 
-/// The file of this name, if there is one. `Memory` comes where there was no memory to open it.
+// The regular file of this name, if there is one.
+fn open_file<R: Files>(rt: &R, name: &str) -> PlaceFile<R::File> {
+    match open_regular(rt, name, OpenOptions::new().read(true).write(true)) {
+        Ok(file) => PlaceFile::Open(file),
+        Err(e) if e.kind() == ErrorKind::NotFound => PlaceFile::Absent,
+        Err(_) => PlaceFile::Broken,
+    }
+}
+
+/// Opens the file of this name where that was not tried so far.
 // No clause can say which file is there.
-pub fn open_file<R: Files>(rt: &R, name: &str) -> Result<PlaceFile<R::File>, Memory> {
-    match OpenOptions::new().read(true).write(true).open(rt, name) {
-        Ok(file) => Ok(PlaceFile::Open(file)),
-        Err(e) => match e.kind() {
-            ErrorKind::OutOfMemory => Err(Memory),
-            ErrorKind::NotFound => Ok(PlaceFile::Absent),
-            _ => Ok(PlaceFile::Broken),
-        },
+pub fn open_first<R: Files>(rt: &R, name: &str, file: &mut PlaceFile<R::File>)
+    ensures { file.old ≢ Unopened → file.new ≡ file.old }
+{
+    if let PlaceFile::Unopened = file {
+        *file = open_file(rt, name);
     }
 }
 
@@ -42,8 +49,9 @@ fn made_file<R: Files>(rt: &R, name: &str) -> PlaceFile<R::File> {
     }
 }
 
-// None of these calls takes memory, and each answers None where the system fails. No clause can say where that is, so of
-// an open file none forbids that answer, and tests on real files show the others.
+// None of these calls takes memory, and each answers None where the system fails, or where the file is not open and not
+// absent. No clause can say where the system fails, so of an open file none forbids that answer, and tests on real files
+// show the others.
 
 /// The size of the file.
 pub fn size_of<F: OpenFile>(file: &PlaceFile<F>) -> Option<u64>
@@ -56,7 +64,7 @@ pub fn size_of<F: OpenFile>(file: &PlaceFile<F>) -> Option<u64>
             Err(_) => None,
         },
         PlaceFile::Absent => Some(0),
-        PlaceFile::Broken => None,
+        _ => None,
     }
 }
 
@@ -83,7 +91,7 @@ pub fn read_at<F: Read + Seek>(file: &mut PlaceFile<F>, at: u64, buf: &mut [u8])
             Some(filled)
         }
         PlaceFile::Absent => Some(0),
-        PlaceFile::Broken => None,
+        _ => None,
     }
 }
 
@@ -140,6 +148,6 @@ pub fn sync_file<F: OpenFile>(file: &PlaceFile<F>) -> Option<()>
     match file {
         PlaceFile::Open(file) => file.sync_all().ok(),
         PlaceFile::Absent => Some(()),
-        PlaceFile::Broken => None,
+        _ => None,
     }
 }
