@@ -87,6 +87,14 @@ fn lift(alloc: Global, chats: &mut KeyMap<ChatState>, key: &ChatKey) -> Option<C
     chats.replace(key, ChatState::empty(alloc)).ok()
 }
 
+/// Puts the state of a chat at its key. Takes memory for the key; `Err` only when it runs out.
+fn put_back(chats: &mut KeyMap<ChatState>, key: &ChatKey, state: ChatState) -> Result<(), Memory>
+    ensures { OnOk result (chats.new ≡ map_of.insert chats.old key.now state) }
+{
+    let _before = chats.insert(key.copy()?, state)?;
+    Ok(())
+}
+
 /// Takes a card into the state of its chat, at its place in mail order, with the mark of its row, and `None` where it is not
 /// shown; a chat that has no state gets one. Where the state can't tell the roster with the card, the chat becomes
 /// unsettled. Takes memory, and time in proportion to the number of the chat's cards; `Err` only when memory runs out, and
@@ -125,7 +133,7 @@ pub fn put(
         None => ChatState::begin(alloc, key.copy()?, me)?,
     };
     put_into(alloc, &mut state, unsettled, key, spot, card, mark, me)?;
-    let _none = chats.insert(key.copy()?, state)?;
+    put_back(chats, key, state)?;
     Ok(())
 }
 
@@ -205,7 +213,7 @@ pub fn take(
         return Ok(());
     };
     take_from(&mut state, unsettled, key, spot)?;
-    let _none = chats.insert(key.copy()?, state)?;
+    put_back(chats, key, state)?;
     Ok(())
 }
 
@@ -232,7 +240,7 @@ pub fn mark(
         return Ok(());
     };
     state.remark(spot, mark)?;
-    let _none = chats.insert(key.copy()?, state)?;
+    put_back(chats, key, state)?;
     Ok(())
 }
 
@@ -260,7 +268,7 @@ pub fn settle(
     if state.spots.len() > 0 {
         state.roster = roster;
         state.setters = setters;
-        let _none = chats.insert(key.copy()?, state)?;
+        put_back(chats, key, state)?;
     }
     Ok(())
 }

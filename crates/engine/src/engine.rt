@@ -16,11 +16,7 @@ ghost use Rattle.engine.specs.Followed.{IsApplyCause, IsChatCause, IsListCause, 
 
 use crate::fault::{ApplyFault, AskFault};
 use box_state::Mailbox;
-use card_type::{ChatKey, KeyMap};
-use chat_view::ChatState;
-use chatlist::ChatList;
-use contacts::Contacts;
-use effects::Effects;
+use card_type::ChatKey;
 use indexes::Indexes;
 use kit::{Addr, Id, Memory, Steps};
 use lists::Items;
@@ -29,9 +25,6 @@ use repair::repair;
 use std::alloc::Global;
 use std::marker::Model;
 use std::sync::ledger::Ledger;
-use std::test::Fail;
-use thread_links::Links;
-use timers::Timers;
 
 /// A mailbox that changes, and answers to questions on it. A contract sees the mailbox, the keys of the chats that the last
 /// change touched, and whether the engine is stale: where memory ran out in `apply` or `rebuild` after something was changed,
@@ -346,30 +339,15 @@ fn repair_for<L: Ledger>(
     Ok(repair_by(alloc, mailbox, change, turn, indexes, steps)?)
 }
 
-/// An engine keeps the mailbox, the indexes, the keys of the touched chats and whether it is stale, and nothing else. Were
-/// there a further field, this would not compile.
-#[test]
-fn keeps_nothing_else(rt: HostRuntime) -> Result<(), Fail> {
-    let alloc = rt.alloc();
-    let me = Addr::read(alloc, b"me@x.org")?.ok_or("no address")?;
+/// All that an engine keeps: the mailbox, its indexes, the keys of the touched chats and whether it is stale. Were there a
+/// further field, in which it could keep cards beside the mailbox, this would not compile.
+fn all_kept(engine: Engine) -> (Mailbox, Indexes, Vec<ChatKey>, bool) {
     let Engine {
         alloc: _,
         mailbox,
         indexes,
         touched,
         stale,
-    } = Engine::new(alloc, me);
-    let Indexes {
-        links,
-        effects,
-        contacts,
-        chats,
-        order,
-        timers,
-    } = indexes;
-    let _cards: Mailbox = mailbox;
-    let _indexes: (Links, Effects, Contacts) = (links, effects, contacts);
-    let _chats: (KeyMap<ChatState>, ChatList, Timers) = (chats, order, timers);
-    let _keys: (Vec<ChatKey>, bool) = (touched, stale);
-    Ok(())
+    } = engine;
+    (mailbox, indexes, touched, stale)
 }

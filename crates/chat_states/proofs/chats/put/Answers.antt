@@ -1,5 +1,4 @@
 use Rattle.std.proofs.Common.{◌≡◌, None, sym, ap, ◌∙◌, subst, Some, []}
-use Rattle.std.specs.FinMap as map_of
 use Rattle.chat_view.specs.declared.state.ChatState.{ChatState}
 use Rattle.chat_view.specs.Standing.{StandsFor, shown}
 use Rattle.chat_states.specs.States.{FollowsChat, Has, has_key}
@@ -11,8 +10,8 @@ use Rattle.chat_states.proofs.chats.put.Goals as goal
 pub returns-clause-others : goal.returns-clause-others
 returns-clause-others c =
     let key = c.args.key.now in
-    let put = c.in_ok-_none.ensures.ok ∙ ap (λ k. map_of.insert c.lift.new.chats k c.put_into.new.state) c.in_ok-copy.ensures in
-    λ other h. at_other c.lift.new.chats c.insert.new.self key c.put_into.new.state put other h ∙ c.lift.ensures.others other h
+    let put = c.in_ok-put_back.ensures in
+    λ other h. at_other c.lift.new.chats c.put_back.new.chats key c.put_into.new.state put other h ∙ c.lift.ensures.others other h
 
 pub returns-clause-states : goal.returns-clause-states
 returns-clause-states c family small none are =
@@ -23,8 +22,8 @@ returns-clause-states c family small none are =
     let state = c.match-lift.state in
     let old = has_key c.args.unsettled.now in
     let new = has_key c.put_into.new.unsettled in
-    let put = c.in_ok-_none.ensures.ok ∙ ap (λ k. map_of.insert c.lift.new.chats k c.put_into.new.state) c.in_ok-copy.ensures in
-    replaced me old new c.args.chats.now c.lift.new.chats c.insert.new.self key c.put_into.new.state c.lift.ensures.others put c.in_ok-put_into.ensures.notes.others
+    let put = c.in_ok-put_back.ensures in
+    replaced me old new c.args.chats.now c.lift.new.chats c.put_back.new.chats key c.put_into.new.state c.lift.ensures.others put c.in_ok-put_into.ensures.notes.others
     family spot.id (Some (shown spot c.args.card.now c.args.mark))
     (λ has.
     let follows : FollowsChat me key (old key) by_id state = elim c.match-lift.branch as (λ _. FollowsChat me key (old key) by_id state) [

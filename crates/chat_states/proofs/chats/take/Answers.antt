@@ -1,5 +1,4 @@
-use Rattle.std.proofs.Common.{sym, ap, ◌∙◌, subst, None}
-use Rattle.std.specs.FinMap as map_of
+use Rattle.std.proofs.Common.{sym, ◌∙◌, subst, None}
 use Rattle.chat_states.specs.States.{Has, has_key}
 use Rattle.chat_states.proofs.Followed.{take_has}
 use Rattle.chat_states.proofs.OneChat.{at_other, replaced}
@@ -11,8 +10,8 @@ returns-in_default-clause-others c = c.lift.ensures.others
 pub returns-clause-others : goal.returns-clause-others
 returns-clause-others c =
     let key = c.args.key.now in
-    let put = c.in_ok-_none.ensures.ok ∙ ap (λ k. map_of.insert c.lift.new.chats k c.take_from.new.state) c.in_ok-copy.ensures in
-    λ other h. at_other c.lift.new.chats c.insert.new.self key c.take_from.new.state put other h ∙ c.lift.ensures.others other h
+    let put = c.in_ok-put_back.ensures in
+    λ other h. at_other c.lift.new.chats c.put_back.new.chats key c.take_from.new.state put other h ∙ c.lift.ensures.others other h
 
 pub returns-clause-states : goal.returns-clause-states
 returns-clause-states c me family card mark small there are =
@@ -20,8 +19,8 @@ returns-clause-states c me family card mark small there are =
     let spot = c.args.spot.now in
     let old = has_key c.args.unsettled.now in
     let new = has_key c.take_from.new.unsettled in
-    let put = c.in_ok-_none.ensures.ok ∙ ap (λ k. map_of.insert c.lift.new.chats k c.take_from.new.state) c.in_ok-copy.ensures in
-    replaced me old new c.args.chats.now c.lift.new.chats c.insert.new.self key c.take_from.new.state c.lift.ensures.others put c.in_ok-take_from.ensures.notes.others
+    let put = c.in_ok-put_back.ensures in
+    replaced me old new c.args.chats.now c.lift.new.chats c.put_back.new.chats key c.take_from.new.state c.lift.ensures.others put c.in_ok-take_from.ensures.notes.others
     family spot.id None
     (λ has.
     let follows = (subst (Has me key (old key) (family key)) (sym c.lift.ensures.before ∙ c.in-Some.is) has).0 in
