@@ -61,7 +61,7 @@ fn steps_file<R: Files>(rt: &R) -> Result<Option<FileSource<'_, R>>, Memory> {
 /// Makes the devices and runs the words over them. A file is opened at the first call of its device, so words that follow no
 /// mailbox open none.
 ///
-/// `Memory` comes where there is none for the words or the devices, or where `/dev/null` can't be opened.
+/// `Memory` comes where there is none for the words or the devices.
 fn start<R: Files + Env + Clock + Print + AllocGlobal, L: Ledger>(
     rt: &R,
     blank: Blank,
@@ -70,9 +70,6 @@ fn start<R: Files + Env + Clock + Print + AllocGlobal, L: Ledger>(
     requires whole { blank.parts ≡ L.parts }
     requires some { 0 < blank.parts }
 {
-    // What is opened gets the lowest free descriptor. While these are held no file of ours stands on descriptor 0, 1 or 2, so
-    // where the program is started with one of them closed, the answer still goes into no file.
-    let _standard = [open_null(rt)?, open_null(rt)?, open_null(rt)?];
     let mut count = Steps::<L>::open(blank);
     let words = words(rt)?;
     let mut mbox = FileSource::open(rt, MBOX)?;
@@ -92,8 +89,27 @@ fn start<R: Files + Env + Clock + Print + AllocGlobal, L: Ledger>(
     ))
 }
 
+/// Starts while `/dev/null` is held three times.
+///
+/// What is opened gets the lowest free descriptor, so then no file of ours stands on descriptor 0, 1 or 2: where the program
+/// is started with one of them closed, the answer still goes into no file. `Memory` comes where `/dev/null` can't be opened
+/// too.
+fn start_apart<R: Files + Env + Clock + Print + AllocGlobal, L: Ledger>(
+    rt: &R,
+    blank: Blank,
+) -> Result<Status, Memory>
+    requires name { blank.name ≡ L.name }
+    requires whole { blank.parts ≡ L.parts }
+    requires some { 0 < blank.parts }
+{
+    let _input = open_null(rt)?;
+    let _output = open_null(rt)?;
+    let _errors = open_null(rt)?;
+    start::<R, L>(rt, blank)
+}
+
 fn main(rt: HostRuntime) -> ExitCode {
-    let status = match start::<HostRuntime, Brand>(&rt, Blank::new(1)) {
+    let status = match start_apart::<HostRuntime, Brand>(&rt, Blank::new(1)) {
         Ok(status) => status,
         Err(Memory) => Status::Memory,
     };

@@ -1,5 +1,5 @@
 use Rattle.chat_program.proofs.main.Given as goal
 
 -- the ledger that the blank was made for
-abbrev pub ghosts-start : goal.ghosts-start
-ghosts-start a = record { name = a.blank.name; parts = a.blank.parts }
+abbrev pub ghosts-start_apart : goal.ghosts-start_apart
+ghosts-start_apart a = record { name = a.blank.name; parts = a.blank.parts }
