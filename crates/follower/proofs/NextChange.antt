@@ -18,7 +18,7 @@ use Rattle.state_image.specs.declared.position.Position.{Position}
 use Rattle.state_store.specs.States.{State}
 use Rattle.follower.specs.Feed.{Fed, Feed, Ending, End, BadLine, after_fed, at_line, coming, counted, ends, fed_first, last_fed, line_fed, lines_fed, lines_left, mail_fed, mails_fed, mails_left, moment_fed}
 use Rattle.follower.specs.Resuming.{LiesWithin, MboxGrows, StepsGrow}
-use Rattle.follower.proofs.Turning.{arrives}
+use Rattle.arrivals.proofs.Uids.{next_uid_after}
 
 -- what comes of the files from a state on
 abbrev pub ahead : Option ℕ → State → Bytes → Option Bytes → Feed
@@ -117,7 +117,7 @@ mail_follows last s f others mbox longer grows within e = by (mails_left s.posit
     by (mail ∷ mails) is e =
         let uid = s.mailbox.next_uid in
         let made = mail_fed uid s.position mail in
-        let next : (after_fed s made).mailbox.next_uid ≡ uid + 1 = arrives s.mailbox uid mail in
+        let next : (after_fed s made).mailbox.next_uid ≡ uid + 1 = next_uid_after s.mailbox uid mail in
         let h = mails_after s.position.mbox mbox mail mails within is in
         follows_as made f (mails_fed (uid + 1) made.position mails) others e (record {
           now = ap (mails_fed uid s.position) (mail_stays s.position.mbox mbox longer mail mails grows within is)
@@ -170,7 +170,7 @@ module _ (last : Option ℕ) (s : State) (f : Fed) (others : Feed) (mbox longer 
   line_follows (Some step.Next) is (mail ∷ mails) left_mails e =
       let uid = s.mailbox.next_uid in
       let made = mail_fed uid (at_line s.position raw) mail in
-      let next : (after_fed s made).mailbox.next_uid ≡ uid + 1 = arrives s.mailbox uid mail in
+      let next : (after_fed s made).mailbox.next_uid ≡ uid + 1 = next_uid_after s.mailbox uid mail in
       let h = mails_after s.position.mbox mbox mail mails within.0 left_mails in
       follows_as made f (lines_fed last (uid + 1) made.position mails lines) others e (record {
         now = line_now (Some step.Next) is (mails_left s.position longer)

@@ -1,5 +1,5 @@
 -- A turn makes the next change of the files, and the others are to come after it.
-use Rattle.std.proofs.Common.{◌≡◌, ◌+◌, ℕ, Bool, true, false, List, [], ◌∷◌, ◌++◌, length, Option, Some, None, Result, Ok, Err, ◌≤◌, ◌<◌, ◌⊎◌, inl, inr, refl, sym, ap, subst, ◌∙◌, if◌then◌else◌, nat_lt, arith}
+use Rattle.std.proofs.Common.{◌≡◌, ◌+◌, ℕ, true, false, List, [], ◌∷◌, ◌++◌, length, Option, Some, None, ◌≤◌, ◌<◌, ◌⊎◌, inl, inr, refl, sym, ap, subst, ◌∙◌, if◌then◌else◌, arith}
 use Rattle.std.proofs.lemmas.Bool.{le-ltb, lt-ltb}
 use Rattle.kit.specs.Lines.{content}
 use Rattle.mboxrd.specs.Answers.{IsNext, max_mail_len}
@@ -7,9 +7,7 @@ use Rattle.mboxrd.specs.declared.taken.Taken.{Taken}
 use Rattle.mboxrd.specs.declared.taken.Taken.TheVariants as taken
 use Rattle.mboxrd.specs.Mails.{Mail, mails_from}
 use Rattle.mboxrd.specs.Reading.{Reading, position as mbox_position}
-use Rattle.card_type.specs.declared.card.Card.{Card}
 use Rattle.chat_card.specs.Cards.{card_of}
-use Rattle.chat_card.specs.declared.fault.CardFault.{CardFault}
 use Rattle.mailbox_model.specs.declared.change.Fault.TheVariants as is_fault
 use Rattle.mailbox_model.specs.declared.change.Change.{Change}
 use Rattle.mailbox_model.specs.declared.change.Change.TheVariants.{ArriveFault, Expunge, Seen, At}
@@ -27,7 +25,8 @@ use Rattle.steps_file.specs.declared.step.Step.TheVariants as step
 use Rattle.follower.specs.declared.fault.RunFault.{RunFault}
 use Rattle.follower.specs.declared.fault.RunFault.TheVariants as fault
 use Rattle.state_image.specs.declared.position.Position.{Position}
-use Rattle.follower.specs.Arrivals.{arrival_of, arrival_taken, arrival_with}
+use Rattle.arrivals.specs.Arrivals.{arrival_of, arrival_taken, arrival_with}
+use Rattle.arrivals.proofs.Uids.{next_uid_after}
 use Rattle.state_store.specs.States.{State}
 use Rattle.touched_chats.specs.Costs.{change_cost}
 use Rattle.keeper.specs.Keeping.{Keeping, after_change, is_refused}
@@ -41,15 +40,6 @@ use Rattle.follower.specs.Spending.{next_cost}
 use Rattle.follower.proofs.Spending.{next_is}
 
 -- ---- one change
-
--- an arrival takes the next uid
-pub arrives : (m : Mailbox) (uid : ℕ) (mail : Mail) → (after m (arrival_of uid mail)).next_uid ≡ m.next_uid + 1
-arrives m uid mail = by (nat_lt max_mail_len (length mail.bytes)) (card_of uid mail.bytes)
-  where
-    by : (b : Bool) (r : Result Card CardFault) → (after m (if b then ArriveFault is_fault.TooLong else arrival_with r)).next_uid ≡ m.next_uid + 1
-    by true r = refl
-    by false (Ok card) = refl
-    by false (Err why) = refl
 
 -- a change is made, and pending after the others
 abbrev IsAfter : Keeping → Change → Position → Keeping → Type 0
@@ -102,7 +92,7 @@ mail_goes k n mail mails others change q c p o room after =
     let is : ◌≡◌ {A = Change × Position} (change, q) (f.change, f.position) = λ i. (c i, p i) in
     let here : n.state ≡ after_fed s f = after.0 ∙ ap (λ (x : Change × Position). after_fed s (record { change = x.0; position = x.1 })) is in
     makes_first k n change q f is (mails_fed (uid + 1) f.position mails) (mails_fed n.state.mailbox.next_uid n.state.position others) room after
-    (ap (λ uid. mails_fed uid f.position mails) (sym (arrives s.mailbox uid mail))
+    (ap (λ uid. mails_fed uid f.position mails) (sym (next_uid_after s.mailbox uid mail))
     ∙ ap (λ ms. mails_fed (after_fed s f).mailbox.next_uid f.position ms) (sym o)
     ∙ ap (λ (x : State). mails_fed x.mailbox.next_uid x.position others) (sym here))
 
@@ -143,7 +133,7 @@ module _ (last : Option ℕ) (k n : Keeping) (raw : List ℕ) (lines next : List
       by : (st : Step) (mails : List Mail) → Makes st s.mailbox.next_uid (counted (at_line s.position raw)) mails (change, q) others
           → MakesFirst k (line_fed (Some st) s.mailbox.next_uid s.position raw mails (later last lines)) n (lines_fed last t.mailbox.next_uid t.position others next)
       by step.Next [] m = absurd m
-      by step.Next (mail ∷ mails) m = step_made (mail_fed s.mailbox.next_uid (at_line s.position raw) mail) mails (s.mailbox.next_uid + 1) m.0 m.1 (arrives s.mailbox s.mailbox.next_uid mail)
+      by step.Next (mail ∷ mails) m = step_made (mail_fed s.mailbox.next_uid (at_line s.position raw) mail) mails (s.mailbox.next_uid + 1) m.0 m.1 (next_uid_after s.mailbox s.mailbox.next_uid mail)
       by (step.Expunge uid) mails m = step_made (record { change = Expunge uid; position = counted (at_line s.position raw) }) mails s.mailbox.next_uid m.0 m.1 refl
       by (step.Seen uid) mails m = step_made (record { change = Seen uid; position = counted (at_line s.position raw) }) mails s.mailbox.next_uid m.0 m.1 refl
       by (step.At moment) mails m = step_made (record { change = At moment; position = counted (at_line s.position raw) }) mails s.mailbox.next_uid m.0 m.1 refl

@@ -12,7 +12,7 @@ use Rattle.mailbox_model.specs.Lists.{Bytes}
 use Rattle.state_image.specs.declared.position.Position.{Position}
 use Rattle.state_store.specs.States.{State}
 use Rattle.keeper.specs.Keeping.{after_change}
-use Rattle.follower.specs.Arrivals.{arrival_of}
+use Rattle.arrivals.specs.Arrivals.{arrival_of}
 
 -- ---- a change, with the position after it
 

@@ -26,7 +26,7 @@ use Rattle.state_store.specs.States.{State}
 use Rattle.keeper.specs.Keeping.{Keeping, max_changes}
 use Rattle.keeper.specs.declared.fault.KeepFault.{KeepFault}
 use Rattle.keeper.specs.declared.fault.KeepFault.TheVariants as of_keeper
-use Rattle.follower.specs.Arrivals.{arrival_of}
+use Rattle.arrivals.specs.Arrivals.{arrival_of}
 use Rattle.follower.specs.Feed.{Feed, at_mail, coming, last_fed}
 use Rattle.follower.specs.Going.{MakesFirst, StopsAt}
 use Rattle.follower.specs.Spending.{next_cost}

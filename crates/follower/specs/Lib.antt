@@ -1,5 +1,4 @@
 -- What public clauses cite.
-pub mod Arrivals
 pub mod Feed
 pub mod Reached
 pub mod Going

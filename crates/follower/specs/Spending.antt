@@ -1,11 +1,10 @@
 -- What the changes and the commits of a run read and write, at most.
-use Rattle.std.specs.Prelude.{◌≤◌, ℕ, zero, suc, ◌+◌, ◌*◌, ◌/◌, List, [], ◌∷◌, length, map, take, drop, flat_map}
-use Rattle.mailbox_model.specs.declared.change.Change.{Change}
-use Rattle.mailbox_model.specs.Mailbox.{Mailbox, after}
+use Rattle.std.specs.Prelude.{◌≤◌, ℕ, zero, suc, ◌+◌, ◌*◌, ◌/◌, List, length, map, take, drop, flat_map}
+use Rattle.mailbox_model.specs.Mailbox.{after}
 use Rattle.state_image.specs.Changes.{change_spelled}
 use Rattle.state_store.specs.Commits.{Fill, commit_reads, commit_writes, fill_with}
 use Rattle.state_store.specs.States.{State}
-use Rattle.touched_chats.specs.Costs.{change_cost}
+use Rattle.arrivals.specs.Costs.{change_costs}
 use Rattle.follower.specs.Feed.{Fed, Feed}
 use Rattle.follower.specs.Going.{after_feds}
 use Rattle.follower.specs.Reached.{committed_count, count_made}
@@ -25,12 +24,7 @@ pub record RoseWithin (old most new : Counts) : Type 0 where
 
 -- ---- what changes read
 
--- what changes cost that are made one after the other
-abbrev pub change_costs : Mailbox → List Change → ℕ
-change_costs m [] = 0
-change_costs m (change ∷ changes) = change_cost m change + change_costs (after m change) changes
-
--- the same of changes of a feed
+-- what changes of a feed cost that are made one after the other
 abbrev pub feds_cost : State → List Fed → ℕ
 feds_cost s fs = change_costs s.mailbox (map (λ f. f.change) fs)
 

@@ -2,14 +2,12 @@
 //! that is kept.
 #![tactic(auto)]
 
-mod arrival;
 mod fault;
 mod follower;
 mod laws;
 mod position;
 mod turns;
 
-pub use arrival::arrival_of;
 pub use fault::{Input, RunFault};
 pub use follower::{Follower, Turned};
 pub use laws::changes_go_on;

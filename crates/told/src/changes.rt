@@ -2,9 +2,9 @@
 ghost use Rattle.std.specs.Prelude.{IfOk, IfSome};
 ghost use Rattle.mailbox_model.specs.Mailbox.{IsValidChange};
 
-use chat_card::{CardFault, read_card};
+use arrivals::arrival_of_mail;
 use kit::{LAST_MOMENT, Memory};
-use mailbox_model::{Change, Fault};
+use mailbox_model::Change;
 use scripts::number;
 use std::alloc::Global;
 
@@ -18,19 +18,6 @@ pub struct Named {
 /// The number that a word writes, and the greatest one where it is more.
 pub fn small_number(word: &[u8]) -> u32 {
     u32::try_from(number(word)).unwrap_or(u32::MAX)
-}
-
-/// The arrival of a mail that gets this uid.
-pub fn arrival_of(alloc: Global, uid: u32, mail: &[u8]) -> Result<Change, Memory>
-    ensures { IfOk result IsValidChange }
-{
-    match read_card(alloc, uid, mail) {
-        Ok(card) => Ok(Change::Arrive(card)),
-        Err(CardFault::NoFields) => Ok(Change::ArriveFault(Fault::NoFields)),
-        Err(CardFault::NoFrom) => Ok(Change::ArriveFault(Fault::NoFrom)),
-        Err(CardFault::CardTooLong) => Ok(Change::ArriveFault(Fault::CardTooLong)),
-        Err(CardFault::Memory) => Err(Memory),
-    }
 }
 
 /// The last mail with a name.
@@ -54,7 +41,7 @@ fn arrival_of_named(
     ensures { IfOk result (λ change. IfSome change IsValidChange) }
 {
     match mail_named(mails, name) {
-        Some(named) => Ok(Some(arrival_of(alloc, uid, &named.mail)?)),
+        Some(named) => Ok(Some(arrival_of_mail(alloc, uid, &named.mail)?)),
         None => Ok(None),
     }
 }

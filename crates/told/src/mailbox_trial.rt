@@ -3,7 +3,7 @@
 ghost use Rattle.std.specs.Prelude.{◌≡◌, false, OnOk};
 ghost use Rattle.mailbox_model.specs.Mailbox.{IsValidChange};
 
-use crate::changes::arrival_of;
+use arrivals::arrival_of_mail;
 use crate::compare::are_pages_alike;
 use crate::pair::Pair;
 use crate::report::Report;
@@ -156,7 +156,7 @@ fn arrives<L: Ledger>(
     let Ok(Taken::Mail(mail)) = reader.next(alloc, source) else {
         return Err(Stop::NoRule);
     };
-    make(report, pair, arrival_of(alloc, uid, &mail)?, steps)
+    make(report, pair, arrival_of_mail(alloc, uid, &mail)?, steps)
 }
 
 /// All mails arrive, and the answers are compared at each two hundredth.

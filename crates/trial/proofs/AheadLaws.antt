@@ -13,7 +13,7 @@ use Rattle.mailbox_model.specs.declared.change.Change.{Change}
 use Rattle.mailbox_model.specs.declared.change.Change.TheVariants.{ArriveFault}
 use Rattle.mailbox_model.specs.declared.change.Fault.TheVariants as fault
 use Rattle.mailbox_model.specs.Lists.{Bytes}
-use Rattle.follower.specs.Arrivals.{arrival_of, arrival_taken, arrival_with}
+use Rattle.arrivals.specs.Arrivals.{arrival_of, arrival_taken, arrival_with}
 use Rattle.trial.specs.Ahead.{Ahead, ArrivesNext, IsWithin, mails_ahead}
 
 -- the bytes that were taken are no longer left

@@ -1,18 +1,13 @@
 -- Arrivals one after the other.
-use Rattle.std.proofs.Common.{◌≡◌, ℕ, ◌+◌, ◌<◌, Bool, true, false, ◌||◌, List, [], ◌∷◌, length, Option, Some, None, if◌then◌else◌, refl, ap, sym, subst, ◌∙◌, arith, nat_lt}
-use Rattle.std.specs.Prelude.{Result, Ok, Err}
-use Rattle.mboxrd.specs.Answers.{max_mail_len}
+use Rattle.std.proofs.Common.{◌≡◌, ℕ, ◌+◌, ◌<◌, Bool, true, false, ◌||◌, List, [], ◌∷◌, length, Option, Some, None, if◌then◌else◌, refl, ap, sym, subst, ◌∙◌, arith}
 use Rattle.mboxrd.specs.Mails.{Mail, mails_from}
 use Rattle.box_maker.specs.Boxes.{trial_box}
-use Rattle.card_type.specs.declared.card.Card.{Card}
-use Rattle.chat_card.specs.Cards.{card_of}
-use Rattle.chat_card.specs.declared.fault.CardFault.{CardFault}
 use Rattle.mailbox_model.specs.declared.change.Change.{Change}
-use Rattle.mailbox_model.specs.declared.change.Change.TheVariants.{ArriveFault, At}
-use Rattle.mailbox_model.specs.declared.change.Fault.TheVariants as is_fault
+use Rattle.mailbox_model.specs.declared.change.Change.TheVariants.{At}
 use Rattle.mailbox_model.specs.Lists.{Bytes}
 use Rattle.mailbox_model.specs.Mailbox.{Mailbox, after, after_all, empty_mailbox, full}
-use Rattle.follower.specs.Arrivals.{arrival_of, arrival_with}
+use Rattle.arrivals.specs.Arrivals.{arrival_of}
+use Rattle.arrivals.proofs.Uids.{next_uid_after}
 use Rattle.trial.specs.declared.fault.TrialFault.{TrialFault}
 use Rattle.trial.specs.declared.fault.TrialFault.TheVariants as fault
 use Rattle.trial.specs.Ahead.{ArrivesNext}
@@ -61,15 +56,6 @@ ends_before m change changes why = by (full m change) why
     by false fault.Memory h = memory_one (by_first m change changes false)
 
 -- ---- arrivals
-
--- an arrival takes the next uid
-pub next_uid_after : (m : Mailbox) (uid : ℕ) (mail : Mail) → (after m (arrival_of uid mail)).next_uid ≡ m.next_uid + 1
-next_uid_after m uid mail = by (nat_lt max_mail_len (length mail.bytes)) (card_of uid mail.bytes)
-  where
-    by : (long : Bool) (read : Result Card CardFault) → (after m (if long then ArriveFault is_fault.TooLong else arrival_with read)).next_uid ≡ m.next_uid + 1
-    by true read = refl
-    by false (Ok card) = refl
-    by false (Err why) = refl
 
 -- the arrival of the next mail, and then of the others
 pub arrival_made : (m n : Mailbox) (uid : ℕ) (mails others : List Mail) (o : Option Change) (change : Change) → o ≡ Some change → uid ≡ m.next_uid → ArrivesNext uid mails o others

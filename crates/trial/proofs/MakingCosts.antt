@@ -7,12 +7,13 @@ use Rattle.mailbox_model.specs.declared.change.Change.TheVariants.{At}
 use Rattle.mailbox_model.specs.Lists.{Bytes}
 use Rattle.mailbox_model.specs.Mailbox.{Mailbox, after, empty_mailbox}
 use Rattle.touched_chats.specs.Costs.{change_cost}
-use Rattle.follower.specs.Arrivals.{arrival_of}
-use Rattle.follower.specs.Spending.{change_costs}
+use Rattle.arrivals.specs.Arrivals.{arrival_of}
+use Rattle.arrivals.proofs.Uids.{next_uid_after}
+use Rattle.arrivals.specs.Costs.{change_costs}
 use Rattle.trial.specs.Ahead.{ArrivesNext}
 use Rattle.trial.specs.Costs.{making_cost}
 use Rattle.trial.specs.Trials.{after_allowed, arrivals, trial_mails}
-use Rattle.trial.proofs.ArrivalLaws.{made_is, next_uid_after}
+use Rattle.trial.proofs.ArrivalLaws.{made_is}
 
 -- of the first, and then of the others
 spent_first : (now later all first others both : ℕ) → both ≡ first + others → now + both ≤ all → later ≤ now + first → later + others ≤ all

@@ -5,7 +5,7 @@ use Rattle.mboxrd.specs.Mails.{Mail}
 use Rattle.mailbox_model.specs.declared.change.Change.TheVariants.{ArriveFault, At}
 use Rattle.mailbox_model.specs.declared.change.Fault.TheVariants.{NoFrom}
 use Rattle.mailbox_model.specs.Mailbox.{Mailbox, end_of_uids}
-use Rattle.follower.specs.Arrivals.{arrival_of}
+use Rattle.arrivals.specs.Arrivals.{arrival_of}
 use Rattle.trial.specs.Summaries.{summary_text}
 use Rattle.trial.specs.Trials.{after_allowed, arrivals}
 

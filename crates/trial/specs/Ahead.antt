@@ -4,7 +4,7 @@ use Rattle.mboxrd.specs.Mails.{Mail, mails_from}
 use Rattle.mboxrd.specs.Reading.{Reading, position}
 use Rattle.mailbox_model.specs.declared.change.Change.{Change}
 use Rattle.mailbox_model.specs.Lists.{Bytes}
-use Rattle.follower.specs.Arrivals.{arrival_of}
+use Rattle.arrivals.specs.Arrivals.{arrival_of}
 
 -- the mails that come next, and whether a call has failed
 pub record Ahead : Type 0 where

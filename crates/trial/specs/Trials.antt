@@ -6,7 +6,7 @@ use Rattle.mailbox_model.specs.declared.change.Change.{Change}
 use Rattle.mailbox_model.specs.declared.change.Change.TheVariants.{At}
 use Rattle.mailbox_model.specs.Lists.{Bytes}
 use Rattle.mailbox_model.specs.Mailbox.{Mailbox, after, after_all, empty_mailbox, full}
-use Rattle.follower.specs.Arrivals.{arrival_of}
+use Rattle.arrivals.specs.Arrivals.{arrival_of}
 
 -- the arrivals of mails, of which the first gets this uid
 abbrev pub arrivals : ℕ → List Mail → List Change

@@ -4,7 +4,7 @@ ghost use Rattle.mailbox_model.specs.Mailbox.{IsValidChange};
 ghost use Rattle.mboxrd.specs.Mails.{mails_from};
 ghost use Rattle.trial.specs.Ahead.{ArrivesNext};
 
-use follower::arrival_of;
+use arrivals::arrival_of;
 use kit::Memory;
 use mailbox_model::Change;
 use mboxrd::{BoxFault, MboxReader};

@@ -2,7 +2,7 @@
 ghost use Rattle.std.specs.Prelude.{◌≡◌, ◌≤◌, ◌+◌, [], ◌∷◌, false, Some, MatchResult, OnOk};
 ghost use Rattle.mailbox_model.specs.Mailbox.{IsValidChange};
 ghost use Rattle.touched_chats.specs.Costs.{change_cost};
-ghost use Rattle.follower.specs.Spending.{change_costs};
+ghost use Rattle.arrivals.specs.Costs.{change_costs};
 ghost use Rattle.trial.specs.Costs.{making_cost};
 ghost use Rattle.trial.specs.Trials.{after_allowed, arrivals, trial_mailbox};
 ghost use Rattle.trial.specs.Faults.{Makes, IsUnmade};

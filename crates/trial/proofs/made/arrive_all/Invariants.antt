@@ -1,5 +1,5 @@
 use Rattle.std.proofs.Common.{◌≡◌, ◌≤◌, ◌+◌, false, length}
-use Rattle.follower.specs.Spending.{change_costs}
+use Rattle.arrivals.specs.Costs.{change_costs}
 use Rattle.trial.specs.Trials.{after_allowed, arrivals}
 use Rattle.trial.proofs.made.arrive_all.Given as goal
 

@@ -1,6 +1,6 @@
 use Rattle.std.proofs.Common.{ap, ◌∙◌}
 use Rattle.mailbox_model.specs.Mailbox.{Mailbox}
-use Rattle.follower.specs.Arrivals.{arrival_taken}
+use Rattle.arrivals.specs.Arrivals.{arrival_taken}
 use Rattle.follower.specs.Following.{Following}
 use Rattle.follower.proofs.Turning.{next_known}
 use Rattle.follower.proofs.follower.Follower.next_arrival.Goals as goal

@@ -1,8 +1,8 @@
-//! From a mail to its arrival.
+//! From the bytes of a mail to the change that it makes.
 ghost use Rattle.std.specs.Prelude.{◌≡◌, IfOk, IfSome};
 ghost use Rattle.chat_card.specs.Cards.{card_of};
 ghost use Rattle.mailbox_model.specs.Mailbox.{IsValidChange};
-ghost use Rattle.follower.specs.Arrivals.{arrival_taken, arrival_with};
+ghost use Rattle.arrivals.specs.Arrivals.{arrival_taken, arrival_with};
 
 use chat_card::{CardFault, read_card};
 use kit::Memory;
@@ -12,7 +12,7 @@ use std::alloc::Global;
 
 /// The arrival of a mail that gets this uid: with its card, or with the reason why it has none. Takes memory; `Err` only
 /// when it runs out.
-fn arrival_of_mail(alloc: Global, uid: u32, mail: &[u8]) -> Result<Change, Memory>
+pub fn arrival_of_mail(alloc: Global, uid: u32, mail: &[u8]) -> Result<Change, Memory>
     ensures change { IfOk result (λ change. change ≡ arrival_with (card_of uid mail.now)) }
     ensures valid { IfOk result IsValidChange }
 {
