@@ -4,8 +4,8 @@ ghost use Rattle.checkpoint.specs.Kept.{count_of as kept_count_of};
 
 use crate::asserts::assert_row;
 use box_state::Mailbox;
-use checkpoint::{Opened, SlotFault, Slots};
-use outside::Shelf;
+use checkpoint::{Opened, Slots};
+use outside::{Shelf, StateFault};
 use shelves::{Crash, MemoryShelf};
 use state_image::Position;
 use std::alloc::Global;
@@ -46,7 +46,7 @@ fn shelf_of(alloc: Global, a: &[u8], b: &[u8], stop: Option<u64>) -> Result<Memo
 }
 
 /// The count that is kept, where anything is.
-fn kept_count<H: Shelf>(alloc: Global, shelf: &mut H) -> Result<Option<u64>, SlotFault> {
+fn kept_count<H: Shelf>(alloc: Global, shelf: &mut H) -> Result<Option<u64>, StateFault> {
     let opened = Slots::open(alloc, shelf)?;
     Ok(count_of(&opened.kept))
 }

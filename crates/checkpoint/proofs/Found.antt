@@ -1,5 +1,5 @@
 -- What is found in the slots.
-use Rattle.std.proofs.Common.{◌≡◌, ℕ, Bool, true, false, Option, None, Some, Result, Ok, Err, option_map, cond, eqb, refl, sym, ◌∙◌, ap, arith}
+use Rattle.std.proofs.Common.{◌≡◌, ℕ, Bool, true, false, Option, None, Some, Result, Ok, Err, cond, eqb, refl, sym, ◌∙◌, ap, arith}
 use Rattle.std.proofs.lemmas.Bool.Decides.{nat_tests}
 use Rattle.outside.specs.declared.shelf.Place.{Place}
 use Rattle.outside.specs.declared.shelf.Place.TheVariants.{A, B, T}
@@ -11,13 +11,11 @@ use Rattle.state_image.specs.declared.fault.ImageFault.{ImageFault}
 use Rattle.state_image.specs.declared.fault.ImageFault.TheVariants.{Version, Malformed, Memory}
 use Rattle.state_image.specs.declared.position.Position.{Position}
 use Rattle.state_image.specs.Images.{image_of}
-use Rattle.checkpoint.specs.declared.fault.SlotFault.{SlotFault}
-use Rattle.checkpoint.specs.declared.fault.SlotFault.TheVariants as fault
 use Rattle.checkpoint.specs.declared.front.Front.{Front}
 use Rattle.checkpoint.specs.declared.front.Stated.{Stated}
 use Rattle.checkpoint.specs.declared.slots.Slots.{Slots}
 use Rattle.checkpoint.specs.Slots.{Slot, chosen_of, next_place, other_place, is_closed}
-use Rattle.checkpoint.specs.Kept.{numbered, slot_kept, at_place, chosen_kept, number_of, count_of, GivesKept}
+use Rattle.checkpoint.specs.Kept.{numbered, slot_kept, at_place, chosen_kept, number_of, count_of, seen_kept}
 use Rattle.checkpoint.specs.Saves.{AreSettled}
 use Rattle.checkpoint.specs.Known.{Knows}
 use Rattle.checkpoint.specs.Parts.{HasChosen, IsFront}
@@ -47,11 +45,6 @@ module _ (places : Places) (outcomes : Places → Type 0) (slots : Slots) (s : O
 
 -- ---- what is kept
 
-pub gives_err : {X Y : Type 0} (v : X → Option (Kept × Position)) (w : Y → Option (Kept × Position)) (why : SlotFault) (kept : Result (Option (Mailbox × Position)) (Place × ℕ)) → GivesKept v (Err why) kept → GivesKept w (Err why) kept
-gives_err v w fault.Disk kept h = h
-gives_err v w (fault.Damaged place at) kept h = h
-gives_err v w fault.Memory kept h = h
-
 pub counted : (b : Bool) (x k : Mailbox × Position) → cond {A = Result (Mailbox × Position) ℕ} b (Ok x) (Err 1) ≡ Ok k → (b ≡ true) × (x ≡ k)
 counted true x k e = (refl, cc)
 counted false x k e = absurd (cc)
@@ -66,14 +59,14 @@ within : (b : Bool) (x : Result (Mailbox × Position) ℕ) (k : Mailbox × Posit
 within true x k e = absurd (cc)
 within false x k e = e
 
-slot_count : (place : Place) (number : ℕ) (r : Result (Mailbox × Position) ℕ) (kept : Option (Kept × Position)) → ((k : Mailbox × Position) → r ≡ Ok k → number ≡ k.1.count) → at_place place r ≡ Ok (option_map (λ (read : Kept × Position). (read.0.mailbox, read.1)) kept)
+slot_count : (place : Place) (number : ℕ) (r : Result (Mailbox × Position) ℕ) (kept : Option (Kept × Position)) → ((k : Mailbox × Position) → r ≡ Ok k → number ≡ k.1.count) → at_place place r ≡ Ok (seen_kept kept)
     → Some number ≡ count_of kept
 slot_count place number (Ok x) None f e = absurd (cc)
 slot_count place number (Ok x) (Some read) f e = let same : x ≡ (read.0.mailbox, read.1) = cc in ap Some (f x refl ∙ ap (λ (k : Mailbox × Position). k.1.count) same)
 slot_count place number (Err at) kept f e = absurd (cc)
 
 -- the number of the chosen slot is the count of what it keeps
-pub number_is : (x : Option (Place × Slot)) (kept : Option (Kept × Position)) → chosen_kept x ≡ Ok (option_map (λ (read : Kept × Position). (read.0.mailbox, read.1)) kept) → number_of x ≡ count_of kept
+pub number_is : (x : Option (Place × Slot)) (kept : Option (Kept × Position)) → chosen_kept x ≡ Ok (seen_kept kept) → number_of x ≡ count_of kept
 number_is None None e = refl
 number_is None (Some read) e = absurd (cc)
 number_is (Some p) kept e = slot_count p.0 p.1.number (slot_kept p.1) kept (λ k is. numbered_count p.1.number (image_of p.1.image) k (within _ _ k is)) e

@@ -1,15 +1,15 @@
 -- What the chosen slot keeps, or where it is damaged.
-use Rattle.std.specs.Prelude.{◌≡◌, ℕ, ◌+◌, length, nat_lt, ◌==◌, if◌then◌else◌, Option, None, Some, option_map, Result, Ok, Err}
+use Rattle.std.specs.Prelude.{ℕ, ◌+◌, length, nat_lt, ◌==◌, if◌then◌else◌, Option, None, Some, option_map, Result, Ok, Err}
 use Rattle.outside.specs.declared.shelf.Place.{Place}
 use Rattle.outside.specs.Places.{Places}
+use Rattle.outside.specs.StateFaults.{Gives}
+use Rattle.outside.specs.declared.faults.StateFault.{StateFault}
 use Rattle.mailbox_model.specs.Mailbox.{Mailbox}
 use Rattle.box_state.specs.Kept.{Kept}
 use Rattle.state_image.specs.declared.fault.ImageFault.{ImageFault}
 use Rattle.state_image.specs.declared.fault.ImageFault.TheVariants.{Version, Malformed, Memory}
 use Rattle.state_image.specs.declared.position.Position.{Position}
 use Rattle.state_image.specs.Images.{image_of}
-use Rattle.checkpoint.specs.declared.fault.SlotFault.{SlotFault}
-use Rattle.checkpoint.specs.declared.fault.SlotFault.TheVariants as fault
 use Rattle.checkpoint.specs.Slots.{Slot, chosen_of}
 
 -- the most bytes that the image of a slot may have
@@ -51,9 +51,10 @@ abbrev pub count_of : Option (Kept × Position) → Option ℕ
 count_of None = None
 count_of (Some read) = Some read.1.count
 
--- What is answered, seen by view, is what is kept, unless the shelf failed or memory ran out.
-abbrev pub GivesKept : {X : Type 0} → (X → Option (Kept × Position)) → Result X SlotFault → Result (Option (Mailbox × Position)) (Place × ℕ) → Type 0
-GivesKept view (Ok x) kept = kept ≡ Ok (option_map (λ (read : Kept × Position). (read.0.mailbox, read.1)) (view x))
-GivesKept view (Err (fault.Damaged place at)) kept = kept ≡ Err (place, at)
-GivesKept view (Err fault.Disk) kept = Unit {0}
-GivesKept view (Err fault.Memory) kept = Unit {0}
+-- what contracts see of what is kept
+abbrev pub seen_kept : Option (Kept × Position) → Option (Mailbox × Position)
+seen_kept kept = option_map (λ (read : Kept × Position). (read.0.mailbox, read.1)) kept
+
+-- what is answered, seen by view, is what is kept
+abbrev pub GivesKept : {X : Type 0} → (X → Option (Kept × Position)) → Result X StateFault → Result (Option (Mailbox × Position)) (Place × ℕ) → Type 0
+GivesKept view result kept = Gives (λ x. seen_kept (view x)) result kept

@@ -3,13 +3,11 @@
 #![tactic(auto)]
 
 mod body;
-mod fault;
 mod front;
 mod laws;
 mod opening;
 mod parts;
 mod slots;
 
-pub use fault::SlotFault;
 pub use laws::a_saved_image_is_kept;
 pub use slots::{Opened, Slots};

@@ -5,16 +5,15 @@ ghost use Rattle.outside.specs.Places.{content};
 ghost use Rattle.outside.specs.Moments.{WhereKnown, ChangesNoRead};
 ghost use Rattle.box_state.specs.declared.ready.Ready.TheVariants.{Unready};
 ghost use Rattle.state_image.specs.Images.{image_of, IsPosition};
-ghost use Rattle.checkpoint.specs.declared.fault.SlotFault.TheVariants as fault;
+ghost use Rattle.outside.specs.declared.faults.StateFault.TheVariants as fault;
 ghost use Rattle.checkpoint.specs.Kept.{numbered, slot_kept, at_place, kept_of, GivesKept};
 ghost use Rattle.checkpoint.specs.Saves.{AreSettled};
 ghost use Rattle.checkpoint.specs.Parts.{IsFront, with_image, HasChosen};
 
-use crate::fault::SlotFault;
 use crate::front::{Front, HEAD, Stated, look};
 use box_state::Mailbox;
 use kit::Memory;
-use outside::{Failed, Place, Shelf};
+use outside::{Failed, Place, Shelf, StateFault};
 use state_image::{ImageFault, Position, read_image};
 use std::alloc::Global;
 
@@ -61,7 +60,7 @@ fn read_bytes<H: Shelf>(
     shelf: &mut H,
     place: Place,
     stated: Stated,
-) -> Result<Vec<u8>, SlotFault>
+) -> Result<Vec<u8>, StateFault>
     ensures image { IfOk result (λ image. WhereKnown (H.seen shelf.old) (λ places.
         17 + stated.length ≤ length (content places place)
         → image.items ≡ (with_image (content places place) stated).image)) }
@@ -69,7 +68,7 @@ fn read_bytes<H: Shelf>(
     ensures nothing { ChangesNoRead H.seen H.may_leave H.moment H.left_since shelf.old shelf.new }
     ensures written { H.written shelf.new ≡ H.written shelf.old }
     ensures later { H.faults shelf.old ≤ H.faults shelf.new }
-    ensures cause { IsErrOf result SlotFault.Disk → Rose (H.faults shelf.old) (H.faults shelf.new) }
+    ensures cause { IsErrOf result StateFault.Disk → Rose (H.faults shelf.old) (H.faults shelf.new) }
 {
     let mut image = zeros(alloc, stated.length as usize)?;
     let count = shelf.read(place, HEAD as u64, &mut image)?;
@@ -83,7 +82,7 @@ fn numbered(
     place: Place,
     number: u64,
     image: &[u8],
-) -> Result<(Mailbox, Position), SlotFault>
+) -> Result<(Mailbox, Position), StateFault>
     ensures gives { GivesKept (λ read. Some read) result (at_place place (numbered number (image_of image.now))) }
     ensures ready { IfOk result (λ read. read.0.ready ≡ Unready) }
     ensures position { IfOk result (λ read. IsPosition read.1) }
@@ -91,10 +90,10 @@ fn numbered(
 {
     match read_image(alloc, image) {
         Ok((mailbox, position)) if position.count == number => Ok((mailbox, position)),
-        Ok(_) => Err(SlotFault::Damaged(place, 1)),
-        Err(ImageFault::Version) => Err(SlotFault::Damaged(place, HEAD as u64)),
-        Err(ImageFault::Malformed(at)) => Err(SlotFault::Damaged(place, HEAD as u64 + at as u64)),
-        Err(ImageFault::Memory) => Err(SlotFault::Memory),
+        Ok(_) => Err(StateFault::Damaged(place, 1)),
+        Err(ImageFault::Version) => Err(StateFault::Damaged(place, HEAD as u64)),
+        Err(ImageFault::Malformed(at)) => Err(StateFault::Damaged(place, HEAD as u64 + at as u64)),
+        Err(ImageFault::Memory) => Err(StateFault::Memory),
     }
 }
 
@@ -104,7 +103,7 @@ fn read_slot<H: Shelf>(
     shelf: &mut H,
     place: Place,
     stated: Stated,
-) -> Result<(Mailbox, Position), SlotFault>
+) -> Result<(Mailbox, Position), StateFault>
     ensures gives { WhereKnown (H.seen shelf.old) (λ places. 17 + stated.length ≤ length (content places place)
         → GivesKept (λ read. Some read) result (at_place place (slot_kept (with_image (content places place) stated)))) }
     ensures ready { IfOk result (λ read. read.0.ready ≡ Unready) }
@@ -112,10 +111,10 @@ fn read_slot<H: Shelf>(
     ensures nothing { ChangesNoRead H.seen H.may_leave H.moment H.left_since shelf.old shelf.new }
     ensures written { H.written shelf.new ≡ H.written shelf.old }
     ensures later { H.faults shelf.old ≤ H.faults shelf.new }
-    ensures cause { IsErrOf result SlotFault.Disk → Rose (H.faults shelf.old) (H.faults shelf.new) }
+    ensures cause { IsErrOf result StateFault.Disk → Rose (H.faults shelf.old) (H.faults shelf.new) }
 {
     if MAX_IMAGE < stated.length {
-        return Err(SlotFault::Damaged(place, 9));
+        return Err(StateFault::Damaged(place, 9));
     }
     let image = read_bytes(alloc, shelf, place, stated)?;
     numbered(alloc, place, stated.number, &image)
@@ -126,7 +125,7 @@ pub fn read_chosen<H: Shelf>(
     alloc: Global,
     shelf: &mut H,
     chosen: Option<(Place, Stated)>,
-) -> Result<Option<(Mailbox, Position)>, SlotFault>
+) -> Result<Option<(Mailbox, Position)>, StateFault>
     ensures gives { WhereKnown (H.seen shelf.old) (λ places. HasChosen places chosen
         → GivesKept (λ kept. kept) result (kept_of places)) }
     ensures ready { IfOk result (λ kept. IfSome kept (λ read. read.0.ready ≡ Unready)) }
@@ -134,7 +133,7 @@ pub fn read_chosen<H: Shelf>(
     ensures nothing { ChangesNoRead H.seen H.may_leave H.moment H.left_since shelf.old shelf.new }
     ensures written { H.written shelf.new ≡ H.written shelf.old }
     ensures later { H.faults shelf.old ≤ H.faults shelf.new }
-    ensures cause { IsErrOf result SlotFault.Disk → Rose (H.faults shelf.old) (H.faults shelf.new) }
+    ensures cause { IsErrOf result StateFault.Disk → Rose (H.faults shelf.old) (H.faults shelf.new) }
 {
     match chosen {
         None => Ok(None),

@@ -9,12 +9,11 @@ ghost use Rattle.checkpoint.specs.Slots.{chosen_of, is_closed, other_place, next
 ghost use Rattle.checkpoint.specs.Saves.{IsAbove, SameOrNew};
 ghost use Rattle.checkpoint.specs.Parts.{IsTarget, SameChosen, StaysChosen, IsChosen};
 
-use crate::fault::SlotFault;
 use crate::front::{Front, Stated, chosen_of};
 use crate::opening::{look_at_slots, read_chosen};
 use crate::parts::{close_gate, fill, open_gate};
 use box_state::Mailbox;
-use outside::{DiskFault, Failed, Place, Shelf};
+use outside::{DiskFault, Failed, Place, Shelf, StateFault};
 use state_image::Position;
 use std::alloc::Global;
 
@@ -140,7 +139,7 @@ impl Slots {
     /// - `number`: the number of the chosen slot is the count of what it keeps.
     /// - `reads`, `written`: no read changes, and nothing is written.
     /// - `any_moment`: a crash at any moment leaves what it might have left at the start.
-    pub fn open<H: Shelf>(alloc: Global, shelf: &mut H) -> Result<Opened, SlotFault>
+    pub fn open<H: Shelf>(alloc: Global, shelf: &mut H) -> Result<Opened, StateFault>
         ensures gives { WhereKnown (H.seen shelf.old) (λ places. GivesKept (λ opened. opened.kept) result (kept_of places)) }
         ensures known { IfOk result (λ opened. WhereKnown (H.seen shelf.new) (Knows opened.slots (H.may_leave shelf.new))) }
         ensures number { IfOk result (λ opened. WhereKnown (H.seen shelf.new) (λ places. number_of (chosen_of places) ≡ count_of opened.kept)) }
@@ -150,7 +149,7 @@ impl Slots {
         ensures any_moment { LeavesOnly H.moment H.left_since shelf.old shelf.new (H.may_leave shelf.old) }
         ensures written { H.written shelf.new ≡ H.written shelf.old }
         ensures later { H.faults shelf.old ≤ H.faults shelf.new }
-        ensures cause { IsErrOf result SlotFault.Disk → Rose (H.faults shelf.old) (H.faults shelf.new) }
+        ensures cause { IsErrOf result StateFault.Disk → Rose (H.faults shelf.old) (H.faults shelf.new) }
     {
         let (a, b) = look_at_slots(shelf)?;
         let chosen = chosen_of(a.slot, b.slot);

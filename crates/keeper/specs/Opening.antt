@@ -1,25 +1,24 @@
 -- What an opening answers.
-use Rattle.std.specs.Prelude.{◌≡◌, ◌≢◌, ⊤, ℕ, Option, option_map, Result, Ok, Err}
+use Rattle.std.specs.Prelude.{◌≡◌, ◌≢◌, ⊤, ℕ, Result, Ok, Err}
 use Rattle.outside.specs.declared.shelf.Place.{Place}
 use Rattle.outside.specs.Places.{Places}
 use Rattle.mailbox_model.specs.Lists.{Bytes}
-use Rattle.mailbox_model.specs.Mailbox.{Mailbox}
 use Rattle.box_state.specs.Kept.{Kept}
 use Rattle.indexes.specs.Costs.{load}
 use Rattle.state_image.specs.declared.position.Position.{Position}
 use Rattle.state_store.specs.States.{State}
-use Rattle.state_store.specs.Stands.{in_tail}
+use Rattle.tail_journal.specs.Read.{in_tail}
 use Rattle.state_store.specs.Stored.{SameFound}
-use Rattle.state_store.specs.declared.fault.StoreFault.{StoreFault}
-use Rattle.state_store.specs.declared.fault.StoreFault.TheVariants as of_store
+use Rattle.outside.specs.declared.faults.StateFault.{StateFault}
+use Rattle.outside.specs.declared.faults.StateFault.TheVariants as of_state
 use Rattle.keeper.specs.declared.fault.KeepFault.{KeepFault}
 use Rattle.keeper.specs.declared.fault.KeepFault.TheVariants as fault
 use Rattle.keeper.specs.Keeping.{Keeping}
 
-abbrev pub store_fault : StoreFault → KeepFault
-store_fault of_store.Disk = fault.Disk
-store_fault (of_store.Damaged place at) = fault.Damaged place at
-store_fault of_store.Memory = fault.Memory
+abbrev pub state_fault : StateFault → KeepFault
+state_fault of_state.Disk = fault.Disk
+state_fault (of_state.Damaged place at) = fault.Damaged place at
+state_fault of_state.Memory = fault.Memory
 
 -- what stands is the state of another address
 pub record IsOthers (me other : Bytes) (stand : Result State (Place × ℕ)) : Type 0 where
@@ -61,23 +60,19 @@ load_of (Err damage) = 0
 abbrev pub state_of : Kept × Position → State
 state_of kept = record { mailbox = kept.0.mailbox; position = kept.1 }
 
--- what contracts see of what the chosen slot keeps
-abbrev pub seen_kept : Option (Kept × Position) → Option (Mailbox × Position)
-seen_kept kept = option_map (λ (read : Kept × Position). (read.0.mailbox, read.1)) kept
-
 -- Why the state that stands is not made: there is no room for a change of T, or memory ran out.
-abbrev pub Fails : {X : Type 0} → StoreFault → Result X (Place × ℕ) → Type 0
-Fails of_store.Disk made = ⊥
-Fails (of_store.Damaged place at) made = made ≡ Err (place, at)
-Fails of_store.Memory made = ⊤
+abbrev pub Fails : {X : Type 0} → StateFault → Result X (Place × ℕ) → Type 0
+Fails of_state.Disk made = ⊥
+Fails (of_state.Damaged place at) made = made ≡ Err (place, at)
+Fails of_state.Memory made = ⊤
 
 -- What was made is what the changes of T make.
-abbrev pub Makes : {T X : Type 0} → Result T StoreFault → X → Result X ℕ → Type 0
+abbrev pub Makes : {T X : Type 0} → Result T StateFault → X → Result X ℕ → Type 0
 Makes (Ok _) after made = made ≡ Ok after
 Makes (Err why) after made = Fails why (in_tail made)
 
 -- what stands is restored
-abbrev pub Restores : Result (Kept × Position) StoreFault → Result State (Place × ℕ) → Type 0
+abbrev pub Restores : Result (Kept × Position) StateFault → Result State (Place × ℕ) → Type 0
 Restores (Ok kept) stand = stand ≡ Ok (state_of kept)
 Restores (Err why) stand = Fails why stand
 

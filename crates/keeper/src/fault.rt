@@ -1,11 +1,10 @@
 //! Why nothing was kept.
 ghost use Rattle.std.specs.Prelude.{◌≡◌};
-ghost use Rattle.keeper.specs.Opening.{store_fault};
+ghost use Rattle.keeper.specs.Opening.{state_fault};
 ghost use Rattle.keeper.specs.declared.fault.KeepFault.TheVariants as fault;
 
 use kit::{Addr, Memory};
-use outside::Place;
-use state_store::StoreFault;
+use outside::{Place, StateFault};
 use thiserror::Error;
 
 /// Why a keeper was not opened, or a change not made or not made lasting.
@@ -28,14 +27,14 @@ pub enum KeepFault {
     Memory,
 }
 
-impl From<StoreFault> for KeepFault {
-    ghost from_gives = { λ fault why. why ≡ store_fault fault };
+impl From<StateFault> for KeepFault {
+    ghost from_gives = { λ fault why. why ≡ state_fault fault };
 
-    fn from(fault: StoreFault) -> KeepFault {
+    fn from(fault: StateFault) -> KeepFault {
         match fault {
-            StoreFault::Disk => KeepFault::Disk,
-            StoreFault::Damaged(place, at) => KeepFault::Damaged(place, at),
-            StoreFault::Memory => KeepFault::Memory,
+            StateFault::Disk => KeepFault::Disk,
+            StateFault::Damaged(place, at) => KeepFault::Damaged(place, at),
+            StateFault::Memory => KeepFault::Memory,
         }
     }
 }

@@ -3,19 +3,19 @@ ghost use Rattle.std.specs.Prelude.{◌≡◌, ◌≢◌, ◌∷◌, [], map, Ok
 ghost use Rattle.std.specs.List.{AllByRecursion};
 ghost use Rattle.state_image.specs.Changes.{FitsChange};
 ghost use Rattle.state_image.specs.Images.{IsPosition};
+ghost use Rattle.checkpoint.specs.Kept.{seen_kept};
 ghost use Rattle.tail_journal.specs.Read.{applied_of, FitsApplied};
 ghost use Rattle.state_store.specs.Stands.{made, after_groups, begins, stand_of};
 ghost use Rattle.keeper.specs.Keeping.{IsWithin};
-ghost use Rattle.keeper.specs.Opening.{state_of, seen_kept, Makes, Restores, RestoresOwn};
+ghost use Rattle.keeper.specs.Opening.{state_of, Makes, Restores, RestoresOwn};
 ghost use Rattle.keeper.specs.declared.fault.KeepFault.TheVariants as fault;
 
 use crate::fault::KeepFault;
 use box_state::{Mailbox, PlanFault};
 use kit::{Addr, Memory};
 use mailbox_model::Change;
-use outside::Place;
+use outside::{Place, StateFault};
 use state_image::Position;
-use state_store::StoreFault;
 use std::alloc::Global;
 use tail_journal::Group;
 
@@ -29,14 +29,14 @@ const FIRST_POSITION: Position = Position {
 
 /// Makes a change that is kept at this offset of the tail. `Damaged` comes exactly where the mailbox has no place for it.
 /// Takes memory.
-fn make_change(mailbox: &mut Mailbox, at: u64, change: Change) -> Result<(), StoreFault>
+fn make_change(mailbox: &mut Mailbox, at: u64, change: Change) -> Result<(), StateFault>
     requires fits { FitsChange change }
     ensures makes { Makes result mailbox.new.mailbox (made mailbox.old.mailbox ((at, change) ∷ [])) }
 {
     match mailbox.plan(&change) {
         Ok(_) => {}
-        Err(PlanFault::Full) => return Err(StoreFault::Damaged(Place::T, at)),
-        Err(PlanFault::Memory) => return Err(StoreFault::Memory),
+        Err(PlanFault::Full) => return Err(StateFault::Damaged(Place::T, at)),
+        Err(PlanFault::Memory) => return Err(StateFault::Memory),
     }
     mailbox.reserve(&change)?;
     mailbox.make(change);
@@ -44,7 +44,7 @@ fn make_change(mailbox: &mut Mailbox, at: u64, change: Change) -> Result<(), Sto
 }
 
 /// Makes the changes of a group, each with its offset in the tail.
-fn make_changes(mailbox: &mut Mailbox, changes: Vec<(u64, Change)>) -> Result<(), StoreFault>
+fn make_changes(mailbox: &mut Mailbox, changes: Vec<(u64, Change)>) -> Result<(), StateFault>
     requires fits { AllByRecursion (λ change. FitsChange change.1) changes.items }
     ensures makes { Makes result mailbox.new.mailbox (made mailbox.old.mailbox changes.items) }
 {
@@ -59,7 +59,7 @@ fn make_groups(
     mailbox: &mut Mailbox,
     position: &mut Position,
     groups: Vec<Group>,
-) -> Result<(), StoreFault>
+) -> Result<(), StateFault>
     requires fit { AllByRecursion FitsApplied (map applied_of groups.items) }
     requires within { IsWithin position.old }
     ensures makes { Makes result (state_of (mailbox.new, position.new))
@@ -96,7 +96,7 @@ fn restore(
     me: &Addr,
     kept: Option<(Mailbox, Position)>,
     groups: Vec<Group>,
-) -> Result<(Mailbox, Position), StoreFault>
+) -> Result<(Mailbox, Position), StateFault>
     requires position { IfSome kept (λ read. IsPosition read.1) }
     requires fit { AllByRecursion FitsApplied (map applied_of groups.items) }
     ensures restores { Restores result

@@ -1,5 +1,6 @@
 -- What public clauses cite.
 pub mod Causes
+pub mod StateFaults
 pub mod Bytes
 pub mod Places
 pub mod Crash

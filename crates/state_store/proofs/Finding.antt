@@ -1,27 +1,24 @@
 -- What an opening finds.
-use Rattle.std.proofs.Common.{◌≡◌, ℕ, List, length, Option, None, Some, Result, Ok, Err, option_map, refl, sym, ◌∙◌, ap, subst}
+use Rattle.std.proofs.Common.{◌≡◌, ℕ, List, length, Option, None, Some, Result, Ok, Err, refl, sym, ◌∙◌, ap, subst}
 use Rattle.outside.specs.declared.shelf.Place.{Place}
 use Rattle.outside.specs.declared.shelf.Place.TheVariants.{T}
 use Rattle.outside.specs.Places.{Places, Changes}
+use Rattle.outside.specs.StateFaults.{Fails}
+use Rattle.outside.specs.declared.faults.StateFault.{StateFault}
+use Rattle.outside.specs.declared.faults.StateFault.TheVariants as fault
 use Rattle.outside.specs.Moments.{LeavesOnly, Reached, WhereKnown, KnownThen}
 use Rattle.outside.proofs.Known.{known_on}
 use Rattle.outside.proofs.Moments.{and_then}
 use Rattle.mailbox_model.specs.Mailbox.{Mailbox}
 use Rattle.box_state.specs.Kept.{Kept}
 use Rattle.state_image.specs.declared.position.Position.{Position}
-use Rattle.checkpoint.specs.Kept.{kept_of, count_of}
+use Rattle.checkpoint.specs.Kept.{kept_of, count_of, seen_kept}
 use Rattle.checkpoint.specs.Saves.{AreSettled}
 use Rattle.tail_journal.specs.Groups.{Applied}
-use Rattle.tail_journal.specs.Read.{groups_from, EndsThere, SameReading}
-use Rattle.state_store.specs.Stands.{count_in, in_tail, with_groups, with_tail, found_of}
-use Rattle.state_store.specs.Stored.{Fails, SameFound, end_of, read_size}
-use Rattle.state_store.specs.declared.fault.StoreFault.{StoreFault}
-use Rattle.state_store.specs.declared.fault.StoreFault.TheVariants as fault
+use Rattle.tail_journal.specs.Read.{groups_from, in_tail, EndsThere, SameReading}
+use Rattle.state_store.specs.Stands.{count_in, with_groups, with_tail, found_of}
+use Rattle.state_store.specs.Stored.{SameFound, end_of, read_size}
 use Rattle.state_store.proofs.Knowing.{same_found}
-
--- what contracts see of what is kept
-abbrev pub seen_kept : Option (Kept × Position) → Option (Mailbox × Position)
-seen_kept kept = option_map (λ (read : Kept × Position). (read.0.mailbox, read.1)) kept
 
 pub count_is : (kept : Option (Kept × Position)) → count_in (seen_kept kept) ≡ count_of kept
 count_is None = refl
@@ -31,7 +28,7 @@ groups_are : (kept : Option (Mailbox × Position)) (groups : List Applied) (x : 
 groups_are kept groups (Ok g) e = let same : g ≡ groups = cc in ap (λ (l : List Applied). Ok (record { kept = kept; groups = l })) same
 groups_are kept groups (Err at) e = absurd (cc)
 
-none_are : (kept : Option (Mailbox × Position)) (why : StoreFault) (x : Result (List Applied) ℕ) → Fails why (in_tail x) → Fails why (with_groups kept x)
+none_are : (kept : Option (Mailbox × Position)) (why : StateFault) (x : Result (List Applied) ℕ) → Fails why (in_tail x) → Fails why (with_groups kept x)
 none_are kept (fault.Damaged place at) (Ok g) e = absurd (cc)
 none_are kept (fault.Damaged place at) (Err n) e = let same : (T, n) ≡ (place, at) = cc in ap (λ (p : Place × ℕ). Err p) same
 none_are kept fault.Disk x e = tt
@@ -44,7 +41,7 @@ module _ (kept : Option (Mailbox × Position)) (number : Option ℕ) (count : co
   pub finds : (groups : List Applied) → in_tail (groups_from number p.t) ≡ Ok groups → found_of p ≡ Ok (record { kept = kept; groups = groups })
   finds groups e = found_with ∙ groups_are kept groups (groups_from number p.t) e
 
-  pub finds_none : (why : StoreFault) → Fails why (in_tail (groups_from number p.t)) → Fails why (found_of p)
+  pub finds_none : (why : StateFault) → Fails why (in_tail (groups_from number p.t)) → Fails why (found_of p)
   finds_none why e = subst (Fails why) (sym found_with) (none_are kept why (groups_from number p.t) e)
 
   pub finds_same : (q : Places) → Changes T (SameReading number) p q → SameFound p q

@@ -17,10 +17,10 @@ use Rattle.checkpoint.proofs.Found.{number_is}
 use Rattle.tail_journal.specs.Frames.{Frame, frame_size, frames}
 use Rattle.tail_journal.specs.Groups.{Applied, Reading, nothing_more, with_first, applied, reading_on, reading}
 use Rattle.tail_journal.specs.Tails.{placed_changes}
-use Rattle.tail_journal.specs.Read.{groups_from}
+use Rattle.tail_journal.specs.Read.{in_tail, groups_from}
 use Rattle.tail_journal.proofs.ReadingLaws.{skipped, applies, stops}
 use Rattle.state_store.specs.States.{State}
-use Rattle.state_store.specs.Stands.{made, after_group, after_groups, count_in, in_tail, with_groups, with_tail, begins, stand_of, stands}
+use Rattle.state_store.specs.Stands.{made, after_group, after_groups, count_in, with_groups, with_tail, begins, stand_of, stands}
 
 -- ---- changes and groups
 

@@ -10,7 +10,7 @@ use Rattle.card_record.specs.Reading.{◌>>=◌}
 use Rattle.state_image.specs.declared.position.Position.{Position}
 use Rattle.checkpoint.specs.Kept.{kept_of}
 use Rattle.tail_journal.specs.Groups.{Applied}
-use Rattle.tail_journal.specs.Read.{groups_from}
+use Rattle.tail_journal.specs.Read.{groups_from, in_tail}
 use Rattle.state_store.specs.States.{State, first_state}
 
 -- ---- groups, applied to a state
@@ -37,11 +37,6 @@ pub record Found : Type 0 where
 -- T is read from the count of what is kept
 abbrev pub count_in : Option (Mailbox × Position) → Option ℕ
 count_in kept = option_map (λ k. k.1.count) kept
-
--- damage in T, by its offset there
-abbrev pub in_tail : {X : Type 0} → Result X ℕ → Result X (Place × ℕ)
-in_tail (Ok x) = Ok x
-in_tail (Err at) = Err (T, at)
 
 abbrev pub with_groups : Option (Mailbox × Position) → Result (List Applied) ℕ → Result Found (Place × ℕ)
 with_groups kept (Ok groups) = Ok (record { kept = kept; groups = groups })

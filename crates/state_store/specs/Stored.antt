@@ -1,6 +1,5 @@
 -- What a store knows of its shelf, and what an opening answers.
 use Rattle.std.specs.Prelude.{◌≡◌, ℕ, List, map, Option, None, Some, is_some, option_map, Result, Ok, Err}
-use Rattle.outside.specs.declared.shelf.Place.{Place}
 use Rattle.outside.specs.declared.shelf.Place.TheVariants.{T}
 use Rattle.outside.specs.Places.{Places}
 use Rattle.box_state.specs.Kept.{Kept}
@@ -8,17 +7,11 @@ use Rattle.state_image.specs.declared.position.Position.{Position}
 use Rattle.checkpoint.specs.Slots.{chosen_of}
 use Rattle.checkpoint.specs.Kept.{number_of}
 use Rattle.checkpoint.specs.Known.{Knows}
-use Rattle.checkpoint.specs.declared.fault.SlotFault.{SlotFault}
-use Rattle.checkpoint.specs.declared.fault.SlotFault.TheVariants as of_slots
 use Rattle.tail_journal.specs.Groups.{Reading, reading}
 use Rattle.tail_journal.specs.Tails.{IsTail}
 use Rattle.tail_journal.specs.Read.{applied_of, EndsThere}
-use Rattle.tail_journal.specs.declared.fault.TailFault.{TailFault}
-use Rattle.tail_journal.specs.declared.fault.TailFault.TheVariants as of_tail
 use Rattle.state_store.specs.Commits.{Fill}
 use Rattle.state_store.specs.Stands.{Found, found_of}
-use Rattle.state_store.specs.declared.fault.StoreFault.{StoreFault}
-use Rattle.state_store.specs.declared.fault.StoreFault.TheVariants as fault
 use Rattle.state_store.specs.declared.store.Store.{Store}
 use Rattle.state_store.specs.declared.store.Opened.{Opened}
 
@@ -51,26 +44,6 @@ found_in opened = record {
   kept = option_map (λ (read : Kept × Position). (read.0.mailbox, read.1)) opened.kept;
   groups = map applied_of opened.groups.items;
 }
-
-abbrev pub slot_fault : SlotFault → StoreFault
-slot_fault of_slots.Disk = fault.Disk
-slot_fault (of_slots.Damaged place at) = fault.Damaged place at
-slot_fault of_slots.Memory = fault.Memory
-
-abbrev pub tail_fault : TailFault → StoreFault
-tail_fault of_tail.Disk = fault.Disk
-tail_fault (of_tail.Damaged at) = fault.Damaged T at
-tail_fault of_tail.Memory = fault.Memory
-
--- What is answered is what is found, unless the shelf failed or memory ran out.
-abbrev pub Fails : {Y : Type 0} → StoreFault → Result Y (Place × ℕ) → Type 0
-Fails (fault.Damaged place at) found = found ≡ Err (place, at)
-Fails fault.Disk found = Unit {0}
-Fails fault.Memory found = Unit {0}
-
-abbrev pub Gives : {X Y : Type 0} → (X → Y) → Result X StoreFault → Result Y (Place × ℕ) → Type 0
-Gives view (Ok x) found = found ≡ Ok (view x)
-Gives view (Err why) found = Fails why found
 
 -- the same is found
 abbrev pub SameFound : Places → Places → Type 0

@@ -10,14 +10,13 @@ ghost use Rattle.state_store.specs.States.{State};
 ghost use Rattle.state_store.specs.Stands.{stands};
 ghost use Rattle.state_store.specs.Stored.{IsStored};
 ghost use Rattle.state_store.specs.Commits.{Appends, Commits, IsLater, MakeBatch, OldOrNew, fill_of};
-ghost use Rattle.state_store.specs.declared.fault.StoreFault.TheVariants as fault;
+ghost use Rattle.outside.specs.declared.faults.StateFault.TheVariants as fault;
 
-use crate::fault::StoreFault;
 use crate::store::Store;
 use box_state::Mailbox;
 use checkpoint::a_saved_image_is_kept;
 use kit::Steps;
-use outside::{DiskFault, Shelf};
+use outside::{DiskFault, Shelf, StateFault};
 use state_image::{Position, each_mailbox_has_one_image, write_image};
 use std::alloc::Global;
 use std::sync::ledger::Ledger;
@@ -78,7 +77,7 @@ pub fn append_changes<H: Shelf>(
     position: Position,
     n: u16,
     changes: &[u8],
-) -> Result<(), StoreFault>
+) -> Result<(), StateFault>
     requires stored { WhereKnown (H.seen shelf.old) (IsStored store.old (H.may_leave shelf.old)) }
     requires batch { MakeBatch position n changes.now }
     requires leads { WhereKnown (H.seen shelf.old) (λ places. (me : Bytes) × (new : State) × (new.position ≡ position) × Commits me new n changes.now places) }
@@ -90,10 +89,10 @@ pub fn append_changes<H: Shelf>(
         (me : Bytes) (new : State) → new.position ≡ position → Commits me new n changes.now places → stands me after ≡ Ok new)) }
     ensures stored { OnOk result (WhereKnown (H.seen shelf.new) (IsStored store.new (H.may_leave shelf.new))) }
     ensures fill { OnOk result (fill_of store.new ≡ record { chosen = true; tail = store.old.tail.size + (39 + length changes.now) }) }
-    ensures untouched { IsErrOf result StoreFault.Memory → shelf.new ≡ shelf.old }
+    ensures untouched { IsErrOf result StateFault.Memory → shelf.new ≡ shelf.old }
     ensures written { RisesUpTo (40 + length changes.now) (H.written shelf.old) (H.written shelf.new) }
     ensures later { H.faults shelf.old ≤ H.faults shelf.new }
-    ensures cause { IsErrOf result StoreFault.Disk → Rose (H.faults shelf.old) (H.faults shelf.new) }
+    ensures cause { IsErrOf result StateFault.Disk → Rose (H.faults shelf.old) (H.faults shelf.new) }
     ensures undamaged { IfErr result (λ why. (why ≡ fault.Disk) ⊎ (why ≡ fault.Memory)) }
 {
     let base = position.count - u64::from(n);
@@ -110,7 +109,7 @@ pub fn save_state<H: Shelf, L: Ledger>(
     mailbox: &Mailbox,
     position: Position,
     steps: &mut Steps<L>,
-) -> Result<(), StoreFault>
+) -> Result<(), StateFault>
     requires stored { WhereKnown (H.seen shelf.old) (IsStored store.old (H.may_leave shelf.old)) }
     requires later { WhereKnown (H.seen shelf.old) (IsLater position.count) }
     requires some { 1 ≤ position.count }
@@ -122,11 +121,11 @@ pub fn save_state<H: Shelf, L: Ledger>(
         → stands me after ≡ Ok (record { mailbox = mailbox.now.mailbox; position = position }))) }
     ensures stored { OnOk result (WhereKnown (H.seen shelf.new) (IsStored store.new (H.may_leave shelf.new))) }
     ensures fill { OnOk result (fill_of store.new ≡ record { chosen = true; tail = 0 }) }
-    ensures untouched { IsErrOf result StoreFault.Memory → shelf.new ≡ shelf.old }
+    ensures untouched { IsErrOf result StateFault.Memory → shelf.new ≡ shelf.old }
     ensures written { RisesUpTo (length (image mailbox.now.mailbox position) + 18) (H.written shelf.old) (H.written shelf.new) }
     ensures most { steps.new ≤ steps.old + cards_in mailbox.now.mailbox }
     ensures later { H.faults shelf.old ≤ H.faults shelf.new }
-    ensures cause { IsErrOf result StoreFault.Disk → Rose (H.faults shelf.old) (H.faults shelf.new) }
+    ensures cause { IsErrOf result StateFault.Disk → Rose (H.faults shelf.old) (H.faults shelf.new) }
     ensures undamaged { IfErr result (λ why. (why ≡ fault.Disk) ⊎ (why ≡ fault.Memory)) }
 {
     let image = write_image(alloc, mailbox, position, steps)?;

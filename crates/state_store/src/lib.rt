@@ -3,9 +3,7 @@
 #![tactic(auto)]
 
 mod commit;
-mod fault;
 mod opening;
 mod store;
 
-pub use fault::StoreFault;
 pub use store::{Opened, Store};

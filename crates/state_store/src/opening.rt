@@ -2,21 +2,20 @@
 ghost use Rattle.std.specs.Prelude.{◌≡◌, ◌≤◌, map, IfOk, OnOk, IsErrOf};
 ghost use Rattle.std.specs.List.{AllByRecursion};
 ghost use Rattle.outside.specs.Causes.{Rose};
+ghost use Rattle.outside.specs.StateFaults.{Gives};
 ghost use Rattle.outside.specs.declared.shelf.Place.TheVariants.{T};
 ghost use Rattle.outside.specs.Places.{Changes};
 ghost use Rattle.outside.specs.Moments.{LeavesOnly, Reached, WhereKnown, KnownThen};
 ghost use Rattle.checkpoint.specs.Slots.{chosen_of};
 ghost use Rattle.checkpoint.specs.Kept.{number_of};
 ghost use Rattle.checkpoint.specs.Known.{Knows};
-ghost use Rattle.tail_journal.specs.Read.{applied_of, groups_from, FitsApplied, SameReading};
-ghost use Rattle.state_store.specs.Stands.{in_tail};
+ghost use Rattle.tail_journal.specs.Read.{applied_of, groups_from, in_tail, FitsApplied, SameReading};
 ghost use Rattle.state_store.specs.Commits.{fill_of};
-ghost use Rattle.state_store.specs.Stored.{IsStored, Gives, fill_in};
+ghost use Rattle.state_store.specs.Stored.{IsStored, fill_in};
 
-use crate::fault::StoreFault;
 use crate::store::Store;
 use checkpoint::Slots;
-use outside::Shelf;
+use outside::{Shelf, StateFault};
 use std::alloc::Global;
 use tail_journal::{Group, Tail};
 
@@ -27,7 +26,7 @@ pub fn open_tail<H: Shelf>(
     shelf: &mut H,
     slots: Slots,
     number: Option<u64>,
-) -> Result<(Store, Vec<Group>), StoreFault>
+) -> Result<(Store, Vec<Group>), StateFault>
     requires known { WhereKnown (H.seen shelf.old) (Knows slots (H.may_leave shelf.old)) }
     requires number { WhereKnown (H.seen shelf.old) (λ places. number_of (chosen_of places) ≡ number) }
     ensures gives { WhereKnown (H.seen shelf.old) (λ places.
@@ -40,7 +39,7 @@ pub fn open_tail<H: Shelf>(
         (Reached (H.may_leave shelf.old) (Changes T (SameReading number)))) }
     ensures written { H.written shelf.new ≡ H.written shelf.old }
     ensures later { H.faults shelf.old ≤ H.faults shelf.new }
-    ensures cause { IsErrOf result StoreFault.Disk → Rose (H.faults shelf.old) (H.faults shelf.new) }
+    ensures cause { IsErrOf result StateFault.Disk → Rose (H.faults shelf.old) (H.faults shelf.new) }
 {
     let (tail, groups) = Tail::read(alloc, shelf, number)?;
     let store = Store {

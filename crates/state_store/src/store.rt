@@ -4,15 +4,14 @@ ghost use Rattle.outside.specs.Causes.{Rose};
 ghost use Rattle.outside.specs.Crash.{RisesUpTo};
 ghost use Rattle.outside.specs.Moments.{LeavesOnly, Reached, WhereKnown, KnownThen};
 ghost use Rattle.checkpoint.specs.Kept.{count_of};
-ghost use Rattle.state_store.specs.declared.fault.StoreFault.TheVariants as fault;
+ghost use Rattle.outside.specs.declared.faults.StateFault.TheVariants as fault;
 
 use crate::commit::{append_changes, save_state};
-use crate::fault::StoreFault;
 use crate::opening::open_tail;
 use box_state::Mailbox;
 use checkpoint::Slots;
 use kit::Steps;
-use outside::Shelf;
+use outside::{Shelf, StateFault};
 use state_image::Position;
 use std::alloc::Global;
 use std::sync::ledger::Ledger;
@@ -57,11 +56,12 @@ fn count_of(kept: &Option<(Mailbox, Position)>) -> Option<u64>
 impl Store {
     ghost use Rattle.box_state.specs.declared.ready.Ready.TheVariants.{Unready};
     ghost use Rattle.std.specs.List.{AllByRecursion};
+    ghost use Rattle.outside.specs.StateFaults.{Gives};
     ghost use Rattle.state_image.specs.Images.{IsPosition};
     ghost use Rattle.tail_journal.specs.Read.{applied_of, FitsApplied};
     ghost use Rattle.state_store.specs.Commits.{Commits, MakeBatch, OldOrNew, commit_reads, commit_writes, falls_due, fill_of, fill_with};
     ghost use Rattle.state_store.specs.Stands.{found_of, stands};
-    ghost use Rattle.state_store.specs.Stored.{found_in, fill_in, IsStored, Gives, SameFound};
+    ghost use Rattle.state_store.specs.Stored.{found_in, fill_in, IsStored, SameFound};
 
     /// Opens the store of a shelf: what the chosen slot keeps, and the groups of the tail that are to be applied after it. What
     /// is after them in T is cut off; without a chosen slot all of it. Takes memory for what is kept.
@@ -75,7 +75,7 @@ impl Store {
     /// - `valid`: the changes of the groups are valid, and so are their positions.
     /// - `any_moment`: a crash at any moment leaves that in which the same is found as in what it might have left at the start.
     /// - `written`: nothing is written.
-    pub fn open<H: Shelf>(alloc: Global, shelf: &mut H) -> Result<Opened, StoreFault>
+    pub fn open<H: Shelf>(alloc: Global, shelf: &mut H) -> Result<Opened, StateFault>
         ensures gives { WhereKnown (H.seen shelf.old) (λ places. Gives found_in result (found_of places)) }
         ensures same { OnOk result (KnownThen (H.seen shelf.old) (H.seen shelf.new) SameFound) }
         ensures stored { IfOk result (λ opened. WhereKnown (H.seen shelf.new) (IsStored opened.store (H.may_leave shelf.new))) }
@@ -87,7 +87,7 @@ impl Store {
         ensures position { IfOk result (λ opened. IfSome opened.kept (λ read. IsPosition read.1)) }
         ensures written { H.written shelf.new ≡ H.written shelf.old }
         ensures later { H.faults shelf.old ≤ H.faults shelf.new }
-        ensures cause { IsErrOf result StoreFault.Disk → Rose (H.faults shelf.old) (H.faults shelf.new) }
+        ensures cause { IsErrOf result StateFault.Disk → Rose (H.faults shelf.old) (H.faults shelf.new) }
     {
         let checkpoint::Opened { slots, kept } = Slots::open(alloc, shelf)?;
         let number = count_of(&kept);
@@ -130,7 +130,7 @@ impl Store {
         n: u16,
         changes: &[u8],
         steps: &mut Steps<L>,
-    ) -> Result<(), StoreFault>
+    ) -> Result<(), StateFault>
         requires stored { WhereKnown (H.seen shelf.old) (IsStored self.old (H.may_leave shelf.old)) }
         requires batch { MakeBatch position n changes.now }
         requires leads { WhereKnown (H.seen shelf.old)
@@ -141,13 +141,13 @@ impl Store {
             stands mailbox.now.mailbox.me after ≡ Ok (record { mailbox = mailbox.now.mailbox; position = position }))) }
         ensures stored { OnOk result (WhereKnown (H.seen shelf.new) (IsStored self.new (H.may_leave shelf.new))) }
         ensures fill { OnOk result (fill_of self.new ≡ fill_with (fill_of self.old) (39 + length changes.now)) }
-        ensures untouched { IsErrOf result StoreFault.Memory → shelf.new ≡ shelf.old }
+        ensures untouched { IsErrOf result StateFault.Memory → shelf.new ≡ shelf.old }
         ensures written { RisesUpTo (commit_writes (fill_of self.old) (length changes.now) (record { mailbox = mailbox.now.mailbox; position = position }))
             (H.written shelf.old) (H.written shelf.new) }
         ensures reads { steps.new ≤ steps.old
             + commit_reads (fill_of self.old) (length changes.now) (record { mailbox = mailbox.now.mailbox; position = position }) }
         ensures later { H.faults shelf.old ≤ H.faults shelf.new }
-        ensures cause { IsErrOf result StoreFault.Disk → Rose (H.faults shelf.old) (H.faults shelf.new) }
+        ensures cause { IsErrOf result StateFault.Disk → Rose (H.faults shelf.old) (H.faults shelf.new) }
         ensures undamaged { IfErr result (λ why. (why ≡ fault.Disk) ⊎ (why ≡ fault.Memory)) }
     {
         if self.is_due(changes) {

@@ -1,14 +1,15 @@
 -- One frame after the other.
-use Rattle.std.proofs.Common.{◌≡◌, ℕ, ◌+◌, ◌<◌, ◌≤◌, List, [], ◌∷◌, ◌++◌, length, map, drop, true, false, nat_lt, eqb, Result, Ok, Err, refl, sym, ◌∙◌, ap, arith, append_assoc, length-drop}
+use Rattle.std.proofs.Common.{◌≡◌, ℕ, ◌+◌, ◌<◌, ◌≤◌, List, [], ◌∷◌, ◌++◌, length, map, drop, true, false, nat_lt, eqb, Result, Ok, Err, refl, sym, subst, ◌∙◌, ap, arith, append_assoc, length-drop}
 use Rattle.std.proofs.lemmas.Bool.Decides.{nat_tests}
 use Rattle.std.proofs.lemmas.List.{append-nil, map-append}
+use Rattle.outside.specs.declared.shelf.Place.{Place}
+use Rattle.outside.specs.declared.faults.StateFault.{StateFault}
+use Rattle.outside.specs.declared.faults.StateFault.TheVariants as fault
 use Rattle.card_record.specs.Reading.{◌>>=◌}
 use Rattle.tail_journal.specs.declared.group.Group.{Group}
 use Rattle.tail_journal.specs.Frames.{Frame, frame_size, frames, IsFirst}
 use Rattle.tail_journal.specs.Groups.{Applied, Reading, with_first, applied, reading_on}
-use Rattle.tail_journal.specs.declared.fault.TailFault.{TailFault}
-use Rattle.tail_journal.specs.declared.fault.TailFault.TheVariants as fault
-use Rattle.tail_journal.specs.Read.{applied_of, groups_of, after_groups, Fails, GoesOn, EndsAt}
+use Rattle.tail_journal.specs.Read.{applied_of, groups_of, in_tail, after_groups, Fails, GoesOn, EndsAt}
 use Rattle.tail_journal.proofs.FrameLaws.{drop_twice}
 use Rattle.tail_journal.proofs.ReadingLaws.{skipped, applies, stops}
 
@@ -32,6 +33,13 @@ skips bytes at count base body first le less old =
       onward = omega arith;
       within = omega (arith, first.within, length-drop at bytes, le);
     }
+
+-- where the first part fails the whole fails
+pub fails_first : {X Y : Type 0} (why : StateFault) (x : Result X ℕ) (f : X → Result Y ℕ) → Fails why x → Fails why (x >>= f)
+fails_first (fault.Damaged place at) (Ok x) f fails = absurd (cc)
+fails_first (fault.Damaged place at) (Err n) f fails = let same : in_tail {X = Place} (Err n) ≡ Err (place, at) = cc in cc
+fails_first fault.Disk x f fails = tt
+fails_first fault.Memory x f fails = tt
 
 not_less : (n : ℕ) → nat_lt n n ≡ false
 not_less n = grind (arith, nat_tests)
@@ -62,10 +70,9 @@ module _ (bytes : List ℕ) (at base : ℕ) (body : List ℕ) (first : IsFirst b
         within = omega (arith, first.within, length-drop at bytes, le);
       }
 
-  pub fails_one : (why : TailFault) → Fails why (applied at frame) → Fails why (reading_on at base (frames (drop at bytes)))
-  fails_one (fault.Damaged place) h = applied_first ∙ ap (λ (x : Result Applied ℕ). x >>= λ g. reading_on (at + frame_size frame) g.position.count rest >>= λ more. Ok (with_first g more)) h
-  fails_one fault.Disk h = tt
-  fails_one fault.Memory h = tt
+  pub fails_one : (why : StateFault) → Fails why (applied at frame) → Fails why (reading_on at base (frames (drop at bytes)))
+  fails_one why h =
+      subst (Fails why) (sym applied_first) (fails_first why (applied at frame) (λ g. reading_on (at + frame_size frame) g.position.count rest >>= λ more. Ok (with_first g more)) h)
 
 less_not : (m n : ℕ) → n < m → nat_lt m n ≡ false
 less_not m n lt = grind (arith, nat_tests)
@@ -97,10 +104,11 @@ pub is_read : (all : Result Reading ℕ) (bytes : List ℕ) (at count : ℕ) (ol
 is_read all bytes at count old new leads ends =
     ap groups_of (sym leads ∙ ap (so_far old) ends.is) ∙ ap (λ (gs : List Applied). Ok (gs, at)) (append-nil (map applied_of old) ∙ ap (map applied_of) (sym ends.groups))
 
-pub fails_all : (all : Result Reading ℕ) (why : TailFault) (bytes : List ℕ) (at count : ℕ) (old : List Group) → so_far old (reading_on at count (frames (drop at bytes))) ≡ all → Fails why (reading_on at count (frames (drop at bytes))) → Fails why (groups_of all)
-fails_all all (fault.Damaged place) bytes at count old leads h = ap groups_of (sym leads ∙ ap (so_far old) h)
-fails_all all fault.Disk bytes at count old leads h = tt
-fails_all all fault.Memory bytes at count old leads h = tt
+pub fails_all : (all : Result Reading ℕ) (why : StateFault) (bytes : List ℕ) (at count : ℕ) (old : List Group) → so_far old (reading_on at count (frames (drop at bytes))) ≡ all → Fails why (reading_on at count (frames (drop at bytes))) → Fails why (groups_of all)
+fails_all all why bytes at count old leads h =
+    subst (λ (x : Result Reading ℕ). Fails why (groups_of x)) leads
+    (fails_first why (so_far old (reading_on at count (frames (drop at bytes)))) (λ r. Ok (r.groups, r.end))
+      (fails_first why (reading_on at count (frames (drop at bytes))) (λ r. Ok (after_groups (map applied_of old) r)) h))
 
 pub at_start : (x : Result Reading ℕ) → so_far [] x ≡ x
 at_start x = sym (after_none x)

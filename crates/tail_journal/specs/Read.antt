@@ -1,9 +1,11 @@
 -- What reading T answers.
 use Rattle.std.specs.Prelude.{◌≡◌, ◌<◌, ◌≤◌, ◌^◌, ℕ, ⊤, List, [], ◌++◌, length, map, drop, Option, None, Some, Result, Ok, Err}
 use Rattle.std.specs.List.{AllByRecursion}
+use Rattle.outside.specs.declared.shelf.Place.{Place}
+use Rattle.outside.specs.declared.shelf.Place.TheVariants.{T}
+use Rattle.outside.specs.StateFaults as state
+use Rattle.outside.specs.declared.faults.StateFault.{StateFault}
 use Rattle.state_image.specs.Changes.{FitsChange}
-use Rattle.tail_journal.specs.declared.fault.TailFault.{TailFault}
-use Rattle.tail_journal.specs.declared.fault.TailFault.TheVariants as fault
 use Rattle.tail_journal.specs.declared.group.Group.{Group}
 use Rattle.card_record.specs.Reading.{◌>>=◌}
 use Rattle.tail_journal.specs.Frames.{frames}
@@ -19,13 +21,16 @@ pub record FitsApplied (group : Applied) : Type 0 where
   pub count : group.position.count ≤ 2 ^ 62
   pub lines : group.position.lines ≤ group.position.steps
 
--- What is answered, seen by view, is what is read, unless the shelf failed or memory ran out.
-abbrev pub Fails : {Y : Type 0} → TailFault → Result Y ℕ → Type 0
-Fails (fault.Damaged at) read = read ≡ Err at
-Fails fault.Disk read = Unit {0}
-Fails fault.Memory read = Unit {0}
+-- damage in T, by its offset there
+abbrev pub in_tail : {X : Type 0} → Result X ℕ → Result X (Place × ℕ)
+in_tail (Ok x) = Ok x
+in_tail (Err at) = Err (T, at)
 
-abbrev pub Gives : {X Y : Type 0} → (X → Y) → Result X TailFault → Result Y ℕ → Type 0
+-- What is answered, seen by view, is what is read of T, unless the shelf failed or memory ran out.
+abbrev pub Fails : {Y : Type 0} → StateFault → Result Y ℕ → Type 0
+Fails why read = state.Fails why (in_tail read)
+
+abbrev pub Gives : {X Y : Type 0} → (X → Y) → Result X StateFault → Result Y ℕ → Type 0
 Gives view (Ok x) read = read ≡ Ok (view x)
 Gives view (Err why) read = Fails why read
 

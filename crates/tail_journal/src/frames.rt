@@ -1,15 +1,15 @@
 //! Frames in the bytes of T, and the groups that they are.
 ghost use Rattle.std.specs.Prelude.{◌≡◌, ◌≢◌, ◌≤◌, ◌<◌, ◌+◌, ◌^◌, [], false, length, take, drop, IfSome, IfErr, IfNone};
 ghost use Rattle.std.specs.Int.{w32, w64, from_be_bytes};
-ghost use Rattle.tail_journal.specs.declared.fault.TailFault.TheVariants as fault;
+ghost use Rattle.outside.specs.declared.faults.StateFault.TheVariants as fault;
 ghost use Rattle.tail_journal.specs.Frames.{frames, is_whole, IsWholeFrame, IsFirst};
 ghost use Rattle.tail_journal.specs.Groups.{applied, within_limit, position_after};
 ghost use Rattle.tail_journal.specs.Read.{applied_of, Gives};
 
 use crate::body::{BodyFault, Head, read_body};
-use crate::fault::TailFault;
 use crate::group::Group;
 use mailbox_model::Change;
+use outside::{Place, StateFault};
 use state_image::Position;
 use std::alloc::Global;
 
@@ -20,7 +20,7 @@ const FRONT: u64 = 13;
 const MAX_COUNT: u64 = 1 << 62;
 
 /// The group of a body, where the count stays within its limit with it.
-fn group_of(at: u64, base: u64, head: Head, changes: Vec<(u64, Change)>) -> Result<Group, TailFault>
+fn group_of(at: u64, base: u64, head: Head, changes: Vec<(u64, Change)>) -> Result<Group, StateFault>
     requires { at < 2 ^ 63 }
     ensures gives { Gives applied_of result (within_limit at (record { position = position_after base head; changes = changes.items })) }
     ensures no_fault { IfErr result (λ why. why ≢ fault.Disk) }
@@ -35,12 +35,12 @@ fn group_of(at: u64, base: u64, head: Head, changes: Vec<(u64, Change)>) -> Resu
             },
             changes,
         }),
-        _ => Err(TailFault::Damaged(at + 1)),
+        _ => Err(StateFault::Damaged(Place::T, at + 1)),
     }
 }
 
 /// The group of a frame at an offset in T. `Damaged` exactly where it is damaged.
-pub fn read_group(alloc: Global, at: u64, base: u64, body: &[u8]) -> Result<Group, TailFault>
+pub fn read_group(alloc: Global, at: u64, base: u64, body: &[u8]) -> Result<Group, StateFault>
     requires { at + 13 + length body.now < 2 ^ 63 }
     ensures gives { Gives applied_of result (applied at (record { base = base; body = body.now })) }
     ensures no_fault { IfErr result (λ why. why ≢ fault.Disk) }
@@ -48,8 +48,8 @@ pub fn read_group(alloc: Global, at: u64, base: u64, body: &[u8]) -> Result<Grou
     let start = at + FRONT;
     match read_body(alloc, at + (FRONT + body.len() as u64), body) {
         Ok((head, changes)) => group_of(at, base, head, changes),
-        Err(BodyFault::Malformed(bad)) => Err(TailFault::Damaged(start + bad as u64)),
-        Err(BodyFault::Memory) => Err(TailFault::Memory),
+        Err(BodyFault::Malformed(bad)) => Err(StateFault::Damaged(Place::T, start + bad as u64)),
+        Err(BodyFault::Memory) => Err(StateFault::Memory),
     }
 }
 

@@ -4,7 +4,6 @@
 
 mod append;
 mod body;
-mod fault;
 mod frames;
 mod group;
 mod laws;
@@ -12,7 +11,6 @@ mod opening;
 mod reading;
 mod tail;
 
-pub use fault::TailFault;
 pub use group::{Group, write_group};
 pub use laws::{a_spelled_group_is_read, no_group_is_applied_twice};
 pub use tail::Tail;

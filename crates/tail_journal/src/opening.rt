@@ -5,32 +5,31 @@ ghost use Rattle.outside.specs.Causes.{HasCause, Rose};
 ghost use Rattle.outside.specs.declared.shelf.Place.TheVariants.{T};
 ghost use Rattle.outside.specs.Places.{Changes, OthersStay};
 ghost use Rattle.outside.specs.Moments.{LeavesOnly, Reached, WhereKnown, KnownThen, IsSettled, ChangesNoRead};
-ghost use Rattle.tail_journal.specs.declared.fault.TailFault.TheVariants as fault;
+ghost use Rattle.outside.specs.declared.faults.StateFault.TheVariants as fault;
 ghost use Rattle.tail_journal.specs.Groups.{reading};
 ghost use Rattle.tail_journal.specs.Read.{applied_of, groups_of, groups_from, FitsApplied, Gives, SameReading, EndsThere};
 
-use crate::fault::TailFault;
 use crate::group::Group;
 use crate::reading::read_groups;
-use outside::{Place, Shelf, cut_and_sync};
+use outside::{Place, Shelf, StateFault, cut_and_sync};
 use std::alloc::Global;
 
 /// More bytes than memory has.
 const TOO_MANY: u64 = 1 << 62;
 
 /// The bytes of T.
-fn read_bytes<H: Shelf>(alloc: Global, shelf: &mut H) -> Result<Vec<u8>, TailFault>
+fn read_bytes<H: Shelf>(alloc: Global, shelf: &mut H) -> Result<Vec<u8>, StateFault>
     ensures bytes { IfOk result (λ bytes. WhereKnown (H.seen shelf.old) (λ places. bytes.items ≡ places.t)) }
     ensures small { IfOk result (λ bytes. length bytes.items < 2 ^ 62) }
     ensures undamaged { IfErr result (λ why. (why ≡ fault.Disk) ⊎ (why ≡ fault.Memory)) }
     ensures nothing { ChangesNoRead H.seen H.may_leave H.moment H.left_since shelf.old shelf.new }
     ensures written { H.written shelf.new ≡ H.written shelf.old }
     ensures later { H.faults shelf.old ≤ H.faults shelf.new }
-    ensures cause { IsErrOf result TailFault.Disk → Rose (H.faults shelf.old) (H.faults shelf.new) }
+    ensures cause { IsErrOf result StateFault.Disk → Rose (H.faults shelf.old) (H.faults shelf.new) }
 {
     let size = shelf.size(Place::T)?;
     if TOO_MANY <= size {
-        return Err(TailFault::Memory);
+        return Err(StateFault::Memory);
     }
     let mut bytes = vec![in alloc; 0u8; size as usize]?;
     let count = shelf.read(Place::T, 0, &mut bytes)?;
@@ -43,7 +42,7 @@ fn read_synced<H: Shelf>(
     alloc: Global,
     shelf: &mut H,
     count: u64,
-) -> Result<(Vec<Group>, usize), TailFault>
+) -> Result<(Vec<Group>, usize), StateFault>
     ensures gives { WhereKnown (H.seen shelf.old) (λ places.
         Gives (λ read. (map applied_of read.0.items, read.1)) result (groups_of (reading count places.t))) }
     ensures valid { IfOk result (λ read. AllByRecursion FitsApplied (map applied_of read.0.items)) }
@@ -51,7 +50,7 @@ fn read_synced<H: Shelf>(
     ensures nothing { ChangesNoRead H.seen H.may_leave H.moment H.left_since shelf.old shelf.new }
     ensures written { H.written shelf.new ≡ H.written shelf.old }
     ensures later { H.faults shelf.old ≤ H.faults shelf.new }
-    ensures cause { IsErrOf result TailFault.Disk → Rose (H.faults shelf.old) (H.faults shelf.new) }
+    ensures cause { IsErrOf result StateFault.Disk → Rose (H.faults shelf.old) (H.faults shelf.new) }
 {
     shelf.sync(Place::T)?;
     let bytes = read_bytes(alloc, shelf)?;
@@ -63,7 +62,7 @@ pub fn read_from<H: Shelf>(
     alloc: Global,
     shelf: &mut H,
     count: u64,
-) -> Result<(u64, Vec<Group>), TailFault>
+) -> Result<(u64, Vec<Group>), StateFault>
     ensures gives { WhereKnown (H.seen shelf.old) (λ places.
         Gives (λ read. map applied_of read.1.items) result (groups_from (Some count) places.t)) }
     ensures valid { IfOk result (λ read. AllByRecursion FitsApplied (map applied_of read.1.items)) }
@@ -76,7 +75,7 @@ pub fn read_from<H: Shelf>(
     ensures others { KnownThen (H.seen shelf.old) (H.seen shelf.new) (OthersStay T) }
     ensures written { H.written shelf.new ≡ H.written shelf.old }
     ensures later { H.faults shelf.old ≤ H.faults shelf.new }
-    ensures cause { IsErrOf result TailFault.Disk → Rose (H.faults shelf.old) (H.faults shelf.new) }
+    ensures cause { IsErrOf result StateFault.Disk → Rose (H.faults shelf.old) (H.faults shelf.new) }
 {
     let (groups, end) = read_synced(alloc, shelf, count)?;
     let end = end as u64;
@@ -85,7 +84,7 @@ pub fn read_from<H: Shelf>(
 }
 
 /// Cuts T to nothing.
-pub fn empty<H: Shelf>(shelf: &mut H) -> Result<(), TailFault>
+pub fn empty<H: Shelf>(shelf: &mut H) -> Result<(), StateFault>
     ensures any_moment { LeavesOnly H.moment H.left_since shelf.old shelf.new
         (Reached (H.may_leave shelf.old) (Changes T (SameReading None))) }
     ensures same { OnOk result (KnownThen (H.seen shelf.old) (H.seen shelf.new) (Changes T (SameReading None))) }

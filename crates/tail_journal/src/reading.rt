@@ -1,15 +1,15 @@
 //! The groups of T from a count on.
 ghost use Rattle.std.specs.Prelude.{◌≢◌, ◌≤◌, ◌<◌, ◌+◌, ◌^◌, List, length, map, drop, IfOk, IfErr, IfSome, IfNone};
 ghost use Rattle.std.specs.List.{AllByRecursion};
-ghost use Rattle.tail_journal.specs.declared.fault.TailFault.TheVariants as fault;
+ghost use Rattle.outside.specs.declared.faults.StateFault.TheVariants as fault;
 ghost use Rattle.tail_journal.specs.declared.group.Group.{Group};
 ghost use Rattle.tail_journal.specs.Frames.{frames, IsFirst};
 ghost use Rattle.tail_journal.specs.Groups.{reading_on, reading};
 ghost use Rattle.tail_journal.specs.Read.{applied_of, groups_of, FitsApplied, GoesOn, EndsAt, Gives, Fails};
 
-use crate::fault::TailFault;
 use crate::frames::{after, first_frame, read_group};
 use crate::group::Group;
+use outside::StateFault;
 use std::alloc::Global;
 
 /// Where reading goes on after a frame with a smaller base, which is skipped unread.
@@ -31,7 +31,7 @@ fn apply(
     base: u64,
     body: &[u8],
     groups: &mut Vec<Group>,
-) -> Result<(usize, u64), TailFault>
+) -> Result<(usize, u64), StateFault>
     requires first { IsFirst base body.now (drop at bytes.now) }
     requires at { at ≤ length bytes.now }
     requires small { length bytes.now < 2 ^ 62 }
@@ -54,7 +54,7 @@ fn take_frame(
     base: u64,
     body: &[u8],
     groups: &mut Vec<Group>,
-) -> Result<Option<(usize, u64)>, TailFault>
+) -> Result<Option<(usize, u64)>, StateFault>
     requires first { IsFirst base body.now (drop at bytes.now) }
     requires at { at ≤ length bytes.now }
     requires small { length bytes.now < 2 ^ 62 }
@@ -81,7 +81,7 @@ fn step(
     at: usize,
     count: u64,
     groups: &mut Vec<Group>,
-) -> Result<Option<(usize, u64)>, TailFault>
+) -> Result<Option<(usize, u64)>, StateFault>
     requires at { at ≤ length bytes.now }
     requires small { length bytes.now < 2 ^ 62 }
     ensures goes { IfOk result (λ next. IfSome next (λ next.
@@ -102,7 +102,7 @@ pub fn read_groups(
     alloc: Global,
     bytes: &[u8],
     count: u64,
-) -> Result<(Vec<Group>, usize), TailFault>
+) -> Result<(Vec<Group>, usize), StateFault>
     requires { length bytes.now < 2 ^ 62 }
     ensures gives { Gives (λ read. (map applied_of read.0.items, read.1)) result (groups_of (reading count bytes.now)) }
     ensures valid { IfOk result (λ read. AllByRecursion FitsApplied (map applied_of read.0.items)) }

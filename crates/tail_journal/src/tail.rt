@@ -6,10 +6,9 @@ ghost use Rattle.outside.specs.Places.{Changes, OthersStay};
 ghost use Rattle.outside.specs.Moments.{LeavesOnly, Reached, WhereKnown, KnownThen};
 
 use crate::append::append_at;
-use crate::fault::TailFault;
 use crate::group::Group;
 use crate::opening::{empty, read_from};
-use outside::{DiskFault, Place, Shelf, cut_and_sync};
+use outside::{DiskFault, Place, Shelf, StateFault, cut_and_sync};
 use std::alloc::Global;
 
 /// The tail in place T of a shelf, as far as an append needs to know it: groups of changes, one after the other.
@@ -52,7 +51,7 @@ impl Tail {
         alloc: Global,
         shelf: &mut H,
         count: Option<u64>,
-    ) -> Result<(Tail, Vec<Group>), TailFault>
+    ) -> Result<(Tail, Vec<Group>), StateFault>
         ensures gives { WhereKnown (H.seen shelf.old) (λ places.
             Gives (λ read. map applied_of read.1.items) result (groups_from count places.t)) }
         ensures valid { IfOk result (λ read. AllByRecursion FitsApplied (map applied_of read.1.items)) }
@@ -64,7 +63,7 @@ impl Tail {
         ensures others { KnownThen (H.seen shelf.old) (H.seen shelf.new) (OthersStay T) }
         ensures written { H.written shelf.new ≡ H.written shelf.old }
         ensures later { H.faults shelf.old ≤ H.faults shelf.new }
-        ensures cause { IsErrOf result TailFault.Disk → Rose (H.faults shelf.old) (H.faults shelf.new) }
+        ensures cause { IsErrOf result StateFault.Disk → Rose (H.faults shelf.old) (H.faults shelf.new) }
     {
         match count {
             Some(count) => {

@@ -1,16 +1,13 @@
-use Rattle.std.proofs.Common.{sym, ap, subst, ◌∙◌, Option}
+use Rattle.std.proofs.Common.{sym, ap, subst, ◌∙◌}
 use Rattle.std.proofs.lemmas.Result.{err_from_is_err_and}
 use Rattle.outside.specs.Places.{Places}
-use Rattle.box_state.specs.Kept.{Kept}
-use Rattle.state_image.specs.declared.position.Position.{Position}
-use Rattle.checkpoint.specs.declared.slots.Opened.{Opened}
 use Rattle.checkpoint.specs.Slots.{chosen_of}
 use Rattle.checkpoint.specs.Kept.{kept_of, number_of}
 use Rattle.checkpoint.specs.Known.{Knows}
 use Rattle.checkpoint.specs.Parts.{HasChosen}
 use Rattle.outside.proofs.Unchanged.{and_more}
 use Rattle.checkpoint.proofs.Fronts.{chosen_is}
-use Rattle.checkpoint.proofs.Found.{still_settled, knows, gives_err, number_is}
+use Rattle.checkpoint.proofs.Found.{still_settled, knows, number_is}
 use Rattle.checkpoint.proofs.slots.Slots.open.Goals as goal
 
 pub returns-in_err-kept-clause-reads : goal.returns-in_err-kept-clause-reads
@@ -30,7 +27,7 @@ returns-in_err-kept-clause-gives g c places is =
     let has = subst (HasChosen places) (sym c.chosen_of-chosen.ensures) (chosen_is places c.in_ok-a.a.slot c.in_ok-a.b.slot fronts.0.slot fronts.1.slot) in
     let mid = c.look_at_slots.ensures.nothing.reads.forth places is in
     let given = c.in_err-kept.ensures.gives mid.places mid.is (subst (λ (q : Places). HasChosen q c.chosen_of-chosen.result) (sym mid.holds) has) in
-    rw (p.1, p.2) (gives_err (λ (kept : Option (Kept × Position)). kept) (λ (opened : Opened). opened.kept) c.in_err-kept.field-0.0 (kept_of places) (rw (sym mid.holds) given))
+    rw (p.1, p.2) (rw (sym mid.holds) given)
 
 pub returns-clause-gives : goal.returns-clause-gives
 returns-clause-gives g c places is =

@@ -1,9 +1,10 @@
 use Rattle.std.proofs.Common.{map, ◌∙◌, ap, sym}
 use Rattle.std.proofs.lemmas.Result.{err_from_is_err_and}
 use Rattle.outside.specs.Places.{Places}
+use Rattle.checkpoint.specs.Kept.{seen_kept}
 use Rattle.tail_journal.specs.Read.{applied_of}
 use Rattle.state_store.specs.Stored.{fill_in}
-use Rattle.state_store.proofs.Finding.{seen_kept, count_is, finds, finds_none, opens_same, opens_leaving}
+use Rattle.state_store.proofs.Finding.{count_is, finds, finds_none, opens_same, opens_leaving}
 use Rattle.state_store.proofs.store.Store.open.Goals as goal
 
 pub returns-in_err-store-clause-gives : goal.returns-in_err-store-clause-gives
