@@ -18,14 +18,11 @@ use engine::{ApplyFault, Engine};
 use kit::{Addr, Steps};
 use mailbox_model::Change;
 use outside::Shelf;
-use state_image::Position;
+use state_image::{MAX_COUNT, Position};
 use state_store::{Opened, Store};
 use std::alloc::Global;
 use std::marker::Model;
 use std::sync::ledger::Ledger;
-
-/// No more changes are counted.
-const MAX_CHANGES: u64 = 4_611_686_018_427_387_904;
 
 /// A mailbox with its kept state: changes are made in an engine, and wait until a commit makes them lasting. After a call
 /// that failed it may only be dropped.
@@ -193,7 +190,7 @@ impl Keeper {
         ensures cause { IfErr result (λ why. (why ≡ fault.Full) ⊎ (why ≡ fault.Memory)) }
         ensures cost { steps.new ≤ steps.old + change_cost self.old.state.mailbox change }
     {
-        if self.position.count == MAX_CHANGES {
+        if self.position.count == MAX_COUNT {
             return Err(KeepFault::Full);
         }
         self.pending.push(&change)?;

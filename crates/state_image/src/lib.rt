@@ -14,6 +14,6 @@ mod write;
 pub use change::{read_change, write_change};
 pub use fault::ImageFault;
 pub use laws::{each_change_has_one_spelling, each_mailbox_has_one_image};
-pub use position::Position;
+pub use position::{MAX_COUNT, Position};
 pub use read::read_image;
 pub use write::write_image;

@@ -1,5 +1,8 @@
 //! How far the changes have come.
 
+/// The greatest count of a position: 2^62.
+pub const MAX_COUNT: u64 = 1 << 62;
+
 /// How many changes were made, and how far the mbox and the steps file were read for them.
 #[derive(Clone, Copy, Debug, PartialEq, Eq)]
 pub struct Position {

@@ -10,7 +10,7 @@ ghost use Rattle.state_image.specs.Images.{image, image_of, count_at, lines_at, 
 use crate::entries::read_entries;
 use crate::fault::ImageFault;
 use crate::offset::{fault_in, rest_from};
-use crate::position::Position;
+use crate::position::{MAX_COUNT, Position};
 use box_state::{Item, Mailbox};
 use card_record::{Field, ReadFault, Rest, read_moment};
 use card_type::Card;
@@ -19,9 +19,6 @@ use std::alloc::Global;
 
 /// The name of an image, which tells its version.
 pub const NAME: &[u8] = b"CHATSIM1";
-
-/// The greatest number of changes: 2^62.
-const MAX_COUNT: u64 = 4_611_686_018_427_387_904;
 
 /// What an image has before the items.
 #[derive(Drop)]

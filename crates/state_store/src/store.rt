@@ -15,10 +15,7 @@ use outside::{Shelf, StateFault};
 use state_image::Position;
 use std::alloc::Global;
 use std::sync::ledger::Ledger;
-use tail_journal::{Group, Tail};
-
-/// How many bytes a group has beside its changes.
-const GROUP_HEAD: usize = 39;
+use tail_journal::{GROUP_HEAD, Group, Tail};
 
 /// The most bytes that the tail may have.
 const MAX_TAIL: u64 = 8_388_608;

@@ -28,7 +28,7 @@ impl<T: Drop> From<AllocFailed<T>> for BodyFault {
 }
 
 /// How many bytes a body has before its changes.
-const HEAD: usize = 26;
+pub const HEAD: usize = 26;
 
 /// What a group has before its changes.
 #[derive(Clone, Copy)]

@@ -10,14 +10,11 @@ use crate::body::{BodyFault, Head, read_body};
 use crate::group::Group;
 use mailbox_model::Change;
 use outside::{Place, StateFault};
-use state_image::Position;
+use state_image::{MAX_COUNT, Position};
 use std::alloc::Global;
 
 /// How many bytes a frame has before its body.
-const FRONT: u64 = 13;
-
-/// The greatest count.
-const MAX_COUNT: u64 = 1 << 62;
+pub const FRONT: u64 = 13;
 
 /// The group of a body, where the count stays within its limit with it.
 fn group_of(at: u64, base: u64, head: Head, changes: Vec<(u64, Change)>) -> Result<Group, StateFault>

@@ -4,11 +4,16 @@ ghost use Rattle.mailbox_model.specs.declared.change.Change.{Change};
 ghost use Rattle.card_type.specs.Records as records;
 ghost use Rattle.tail_journal.specs.Spelling.{IsBatch, AreSpelled, body_spelled, open_group, group_spelled};
 
+use crate::body::HEAD;
+use crate::frames::FRONT;
 use card_record::{Written, write_block, write_count};
 use kit::Memory;
 use mailbox_model::Change;
 use state_image::Position;
 use std::alloc::Global;
+
+/// How many bytes a group has beside its changes.
+pub const GROUP_HEAD: usize = FRONT as usize + HEAD;
 
 /// A group that is to be applied.
 #[derive(Drop)]

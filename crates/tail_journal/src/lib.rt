@@ -11,6 +11,6 @@ mod opening;
 mod reading;
 mod tail;
 
-pub use group::{Group, write_group};
+pub use group::{GROUP_HEAD, Group, write_group};
 pub use laws::{a_spelled_group_is_read, no_group_is_applied_twice};
 pub use tail::Tail;
