@@ -147,7 +147,7 @@ fn moved_by(alloc: Global, links: &mut Links, coming: Coming) -> Result<String, 
     told(alloc, moved.as_slice())
 }
 
-/// The first row whose card moves others, if there is one.
+/// The first row that does not say what its card moves, if there is one.
 fn wrong_row(alloc: Global, links: &mut Links, rows: &[Row]) -> Result<Option<usize>, Fail>
     requires whole { links.old.whole ≡ true }
 {
@@ -208,23 +208,21 @@ fn naming(alloc: Global, links: &mut Links, sought: &str) -> Result<String, Fail
     Ok(text)
 }
 
+fn wrong_of_ten(alloc: Global) -> Result<Option<usize>, Fail> {
+    let mut links = Links::new(alloc);
+    wrong_row(alloc, &mut links, &TEN_THAT_WAIT)
+}
+
 #[test]
 fn cards_that_come_move_those_that_name_them(rt: HostRuntime) -> Result<(), Fail> {
     let alloc = rt.alloc();
-    assert_same(
-        &rt,
-        wrong_row(alloc, &mut Links::new(alloc), &TEN_THAT_WAIT)?,
-        None,
-    );
+    assert_same(&rt, wrong_of_ten(alloc)?, None);
     assert_same(
         &rt,
         moved_by_last(alloc, &mut Links::new(alloc), 2_000)?,
         2_000,
     );
-    assert_same(
-        &rt,
-        naming(alloc, &mut Links::new(alloc), "a")?.as_str(),
-        "bc",
-    );
+    let naming = naming(alloc, &mut Links::new(alloc), "a")?;
+    assert_same(&rt, naming.as_str(), "bc");
     Ok(())
 }
