@@ -24,9 +24,9 @@ ghost use Rattle.follower.specs.declared.fault.Input.TheVariants.{Mbox};
 ghost use Rattle.follower.specs.declared.fault.RunFault.TheVariants as fault;
 ghost use Rattle.mailbox_model.specs.declared.change.Change.TheVariants.{At};
 
-use arrivals::arrival_of;
 use crate::fault::{Input, RunFault};
 use crate::position::{at_line, at_mail, counted};
+use arrivals::arrival_of;
 use engine::Engine;
 use keeper::Keeper;
 use kit::{Addr, Steps};

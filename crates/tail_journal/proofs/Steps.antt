@@ -108,7 +108,7 @@ pub fails_all : (all : Result Reading ℕ) (why : StateFault) (bytes : List ℕ)
 fails_all all why bytes at count old leads h =
     subst (λ (x : Result Reading ℕ). Fails why (groups_of x)) leads
     (fails_first why (so_far old (reading_on at count (frames (drop at bytes)))) (λ r. Ok (r.groups, r.end))
-      (fails_first why (reading_on at count (frames (drop at bytes))) (λ r. Ok (after_groups (map applied_of old) r)) h))
+    (fails_first why (reading_on at count (frames (drop at bytes))) (λ r. Ok (after_groups (map applied_of old) r)) h))
 
 pub at_start : (x : Result Reading ℕ) → so_far [] x ≡ x
 at_start x = sym (after_none x)

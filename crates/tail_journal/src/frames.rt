@@ -17,7 +17,12 @@ use std::alloc::Global;
 pub const FRONT: u64 = 13;
 
 /// The group of a body, where the count stays within its limit with it.
-fn group_of(at: u64, base: u64, head: Head, changes: Vec<(u64, Change)>) -> Result<Group, StateFault>
+fn group_of(
+    at: u64,
+    base: u64,
+    head: Head,
+    changes: Vec<(u64, Change)>,
+) -> Result<Group, StateFault>
     requires { at < 2 ^ 63 }
     ensures gives { Gives applied_of result (within_limit at (record { position = position_after base head; changes = changes.items })) }
     ensures no_fault { IfErr result (λ why. why ≢ fault.Disk) }

@@ -3,10 +3,10 @@
 ghost use Rattle.std.specs.Prelude.{◌≡◌, false, OnOk};
 ghost use Rattle.mailbox_model.specs.Mailbox.{IsValidChange};
 
-use arrivals::arrival_of_mail;
 use crate::compare::are_pages_alike;
 use crate::pair::Pair;
 use crate::report::Report;
+use arrivals::arrival_of_mail;
 use box_maker::box_bytes;
 use box_state::Mailbox;
 use card_type::ChatKey;
