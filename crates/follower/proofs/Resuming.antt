@@ -7,8 +7,8 @@ use Rattle.mailbox_model.specs.declared.change.Change.TheVariants.{Arrive, Arriv
 use Rattle.mailbox_model.specs.Lists.{Bytes}
 use Rattle.mailbox_model.specs.Mailbox.{Mailbox, after, full}
 use Rattle.state_image.specs.declared.position.Position.{Position}
-use Rattle.state_store.specs.States.{State}
-use Rattle.keeper.specs.Keeping.{is_refused, max_changes}
+use Rattle.state_store.specs.States.{State, max_changes}
+use Rattle.keeper.specs.Keeping.{is_refused}
 use Rattle.arrivals.specs.Arrivals.{arrival_of}
 use Rattle.follower.specs.Feed.{Fed, Feed, End, after_fed, counted, ends, fed_first, feed, mail_fed, mails_fed, mails_left, moment_fed}
 use Rattle.follower.specs.Going.{AreMade, Leads, after_feds, fed_all}

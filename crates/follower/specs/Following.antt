@@ -22,8 +22,8 @@ use Rattle.follower.specs.declared.fault.RunFault.TheVariants as fault
 use Rattle.follower.specs.declared.follower.Turned.{Turned}
 use Rattle.follower.specs.declared.follower.Turned.TheVariants as turned
 use Rattle.state_image.specs.declared.position.Position.{Position}
-use Rattle.state_store.specs.States.{State}
-use Rattle.keeper.specs.Keeping.{Keeping, max_changes}
+use Rattle.state_store.specs.States.{State, max_changes}
+use Rattle.keeper.specs.Keeping.{Keeping}
 use Rattle.keeper.specs.declared.fault.KeepFault.{KeepFault}
 use Rattle.keeper.specs.declared.fault.KeepFault.TheVariants as of_keeper
 use Rattle.arrivals.specs.Arrivals.{arrival_of}

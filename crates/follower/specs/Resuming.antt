@@ -3,8 +3,7 @@ use Rattle.std.specs.Prelude.{◌≡◌, ◌≢◌, ◌≤◌, ℕ, ◌++◌, le
 use Rattle.mboxrd.specs.Growth.{IsClosed, BeginsMail}
 use Rattle.mailbox_model.specs.Lists.{Bytes}
 use Rattle.state_image.specs.declared.position.Position.{Position}
-use Rattle.state_store.specs.States.{State}
-use Rattle.keeper.specs.Keeping.{max_changes}
+use Rattle.state_store.specs.States.{State, max_changes}
 use Rattle.follower.specs.Feed.{Feed, feed}
 use Rattle.follower.specs.Going.{Leads}
 use Rattle.follower.specs.Reached.{Reached, Full, reached}

@@ -10,11 +10,11 @@ use Rattle.mailbox_model.specs.Mailbox.{Mailbox, after, after_all, full, AreAllo
 use Rattle.state_image.specs.declared.position.Position.{Position}
 use Rattle.state_image.specs.Changes.{change_spelled, FitsChange}
 use Rattle.tail_journal.specs.Spelling.{AreSpelled, IsBatch}
-use Rattle.state_store.specs.States.{State}
+use Rattle.state_store.specs.States.{State, IsWithin}
 use Rattle.state_store.specs.Stands.{stands}
 use Rattle.state_store.specs.Commits.{Commits, MakeBatch, batch_to}
 use Rattle.keeper.specs.Pending.{PendingChanges, ArePending, AreWritten, none_pending, with_change}
-use Rattle.keeper.specs.Keeping.{Keeping, IsKept, IsWithin, after_change}
+use Rattle.keeper.specs.Keeping.{Keeping, IsKept, after_change}
 
 -- ---- one change more
 

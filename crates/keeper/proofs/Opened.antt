@@ -1,21 +1,21 @@
--- What is kept after an opening.
-use Rattle.std.proofs.Common.{◌≡◌, Option, Result, Ok, Err, sym, ◌∙◌, ap}
+-- What is kept after an opening, and why nothing is opened.
+use Rattle.std.proofs.Common.{◌≡◌, ℕ, Option, Result, Ok, Err, sym, ◌∙◌, ap}
+use Rattle.outside.specs.declared.shelf.Place.{Place}
 use Rattle.outside.specs.Places.{Places}
 use Rattle.outside.specs.Moments.{KnownThen, WhereKnown}
+use Rattle.outside.specs.StateFaults.{Fails}
+use Rattle.outside.specs.declared.faults.StateFault.{StateFault}
+use Rattle.outside.specs.declared.faults.StateFault.TheVariants as of_state
 use Rattle.mailbox_model.specs.Lists.{Bytes}
-use Rattle.mailbox_model.specs.Mailbox.{Mailbox}
-use Rattle.box_state.specs.Kept.{Kept}
-use Rattle.indexes.specs.Costs.{load}
-use Rattle.state_image.specs.declared.position.Position.{Position}
 use Rattle.state_store.specs.States.{State}
-use Rattle.state_store.specs.Stands.{Found, found_of, stand_of, stands}
+use Rattle.state_store.specs.Stands.{found_of, stand_of, stands}
 use Rattle.state_store.specs.Stored.{IsStored, SameFound}
 use Rattle.state_store.specs.declared.store.Store.{Store}
 use Rattle.state_store.proofs.Appending.{is_settled}
 use Rattle.keeper.specs.declared.fault.KeepFault.{KeepFault}
 use Rattle.keeper.specs.declared.fault.KeepFault.TheVariants as fault
 use Rattle.keeper.specs.Keeping.{Keeping, IsKept}
-use Rattle.keeper.specs.Opening.{AllFindSame, OnOtherMe, load_of, state_of}
+use Rattle.keeper.specs.Opening.{AllFindSame, IsNotOwn, IsOpenCause, OnOtherMe, state_fault}
 use Rattle.keeper.specs.Pending.{none_pending}
 use Rattle.keeper.proofs.Keeping.{kept_alone}
 
@@ -34,21 +34,23 @@ module _ (old new : Option Places) (same : KnownThen old new SameFound) where
       let mid = same.forth places is in
       ap found_of (is_settled store outcomes mid.places (stored mid.places mid.is) c left) ∙ mid.holds
 
-  -- what was found leads to the keeper's state
-  pub opened_is_kept : (me : Bytes) (k : Keeping) (found : Found) (kept : Kept × Position) → WhereKnown old (λ places. found_of places ≡ Ok found) → stand_of me (Ok found) ≡ Ok (state_of kept)
-      → kept.0.mailbox.me ≡ me → k.state ≡ state_of kept → k.pending ≡ none_pending → WhereKnown new (IsKept k)
-  opened_is_kept me k found kept finds stood whose state none places is =
+  -- what stood is the keeper's state
+  pub opened_is_kept : (me : Bytes) (k : Keeping) (s : State) → WhereKnown old (λ places. stands me places ≡ Ok s) → s.mailbox.me ≡ me → k.state ≡ s → k.pending ≡ none_pending → WhereKnown new (IsKept k)
+  opened_is_kept me k s stood whose state none places is =
       let before = same.back places is in
-      kept_alone k places none (ap (λ (s : State). stands s.mailbox.me places) state ∙ ap (λ (me : Bytes). stands me places) whose
-      ∙ ap (stand_of me) (before.holds ∙ finds before.places before.is) ∙ stood ∙ ap (λ (s : State). Ok s) (sym state))
+      kept_alone k places none (ap (λ (t : State). stands t.mailbox.me places) state ∙ ap (λ (me : Bytes). stands me places) whose
+      ∙ ap (stand_of me) before.holds ∙ stood before.places before.is ∙ ap (λ (t : State). Ok t) (sym state))
 
--- what is opened is the state that stands, and of this address
-pub stands_opened : (me : Bytes) (places : Places) (found : Found) (kept : Kept × Position) (m : Mailbox) → found_of places ≡ Ok found → stand_of me (Ok found) ≡ Ok (state_of kept)
-    → kept.0.mailbox.me ≡ me → m ≡ kept.0.mailbox → (stands me places ≡ Ok (record { mailbox = m; position = kept.1 })) × (m.me ≡ me)
-stands_opened me places found kept m finds stood own is =
-    (ap (stand_of me) finds ∙ stood ∙ ap (λ x. Ok (record { mailbox = x; position = kept.1 })) (sym is), ap (λ x. x.me) is ∙ own)
+-- ---- why nothing is opened
 
--- what the state that stands takes to be opened
-pub load_is : (me : Bytes) (places : Places) (found : Found) (kept : Kept × Position) → found_of places ≡ Ok found → stand_of me (Ok found) ≡ Ok (state_of kept)
-    → load_of (stands me places) ≡ load kept.0.mailbox
-load_is me places found kept finds stood = ap load_of (ap (stand_of me) finds ∙ stood)
+pub cause_of : (me : Bytes) (stand : Result State (Place × ℕ)) (why : StateFault) → Fails why stand → IsOpenCause me stand (state_fault why)
+cause_of me stand of_state.Disk fails = tt
+cause_of me stand (of_state.Damaged place at) fails = fails
+cause_of me stand of_state.Memory fails = tt
+
+pub others_stand : (me : Bytes) (stand : Result State (Place × ℕ)) (s : State) (why : KeepFault) → stand ≡ Ok s → IsNotOwn me s.mailbox why → IsOpenCause me stand why
+others_stand me stand s fault.Disk is not = absurd not
+others_stand me stand s (fault.Damaged place at) is not = absurd not
+others_stand me stand s (fault.OtherMe other) is not = record { state = s; is = is; whose = not.0; differs = not.1 }
+others_stand me stand s fault.Full is not = absurd not
+others_stand me stand s fault.Memory is not = tt

@@ -1,10 +1,10 @@
 -- A keeper as contracts see it, and how what it holds goes on from what is kept.
-use Rattle.std.specs.Prelude.{◌≡◌, ℕ, ◌+◌, ◌≤◌, ◌^◌, ◌==◌, Bool, ◌||◌, List, Ok}
+use Rattle.std.specs.Prelude.{◌≡◌, ◌+◌, ◌==◌, Bool, ◌||◌, List, Ok}
 use Rattle.outside.specs.Places.{Places}
 use Rattle.mailbox_model.specs.declared.change.Change.{Change}
 use Rattle.mailbox_model.specs.Mailbox.{after, after_all, full, AreAllowed}
 use Rattle.state_image.specs.declared.position.Position.{Position}
-use Rattle.state_store.specs.States.{State}
+use Rattle.state_store.specs.States.{State, max_changes}
 use Rattle.state_store.specs.Stands.{stands}
 use Rattle.state_store.specs.declared.store.Store.{Store}
 use Rattle.keeper.specs.Pending.{PendingChanges, ArePending}
@@ -15,15 +15,6 @@ pub record Keeping : Type 0 where
   pub pending : PendingChanges
   pub store : Store
   pub stale : Bool
-
--- the most changes that are counted
-abbrev pub max_changes : ℕ
-max_changes = 2 ^ 62
-
--- the count is within its limit, and no more lines than bytes were read of the steps file
-pub record IsWithin (p : Position) : Type 0 where
-  pub count : p.count ≤ max_changes
-  pub lines : p.lines ≤ p.steps
 
 -- a change is made, and this is the position after it
 abbrev pub after_change : State → Change → Position → State

@@ -3,11 +3,8 @@ use Rattle.std.specs.Prelude.{◌≡◌, ◌≢◌, ⊤, ℕ, Result, Ok, Err}
 use Rattle.outside.specs.declared.shelf.Place.{Place}
 use Rattle.outside.specs.Places.{Places}
 use Rattle.mailbox_model.specs.Lists.{Bytes}
-use Rattle.box_state.specs.Kept.{Kept}
 use Rattle.indexes.specs.Costs.{load}
-use Rattle.state_image.specs.declared.position.Position.{Position}
 use Rattle.state_store.specs.States.{State}
-use Rattle.tail_journal.specs.Read.{in_tail}
 use Rattle.state_store.specs.Stored.{SameFound}
 use Rattle.outside.specs.declared.faults.StateFault.{StateFault}
 use Rattle.outside.specs.declared.faults.StateFault.TheVariants as of_state
@@ -54,29 +51,8 @@ abbrev pub load_of : Result State (Place × ℕ) → ℕ
 load_of (Ok s) = load s.mailbox
 load_of (Err damage) = 0
 
--- ---- from what is kept to what stands
-
--- the state of a mailbox with a position
-abbrev pub state_of : Kept × Position → State
-state_of kept = record { mailbox = kept.0.mailbox; position = kept.1 }
-
--- Why the state that stands is not made: there is no room for a change of T, or memory ran out.
-abbrev pub Fails : {X : Type 0} → StateFault → Result X (Place × ℕ) → Type 0
-Fails of_state.Disk made = ⊥
-Fails (of_state.Damaged place at) made = made ≡ Err (place, at)
-Fails of_state.Memory made = ⊤
-
--- What was made is what the changes of T make.
-abbrev pub Makes : {T X : Type 0} → Result T StateFault → X → Result X ℕ → Type 0
-Makes (Ok _) after made = made ≡ Ok after
-Makes (Err why) after made = Fails why (in_tail made)
-
--- what stands is restored
-abbrev pub Restores : Result (Kept × Position) StateFault → Result State (Place × ℕ) → Type 0
-Restores (Ok kept) stand = stand ≡ Ok (state_of kept)
-Restores (Err why) stand = Fails why stand
-
--- and is the state of this address
-abbrev pub RestoresOwn : Bytes → Result (Kept × Position) KeepFault → Result State (Place × ℕ) → Type 0
-RestoresOwn me (Ok kept) stand = (stand ≡ Ok (state_of kept)) × (kept.0.mailbox.me ≡ me)
-RestoresOwn me (Err why) stand = IsOpenCause me stand why
+-- the mailbox is of another address than this, unless memory ran out
+abbrev pub IsNotOwn : Bytes → Mailbox → KeepFault → Type 0
+IsNotOwn me m (fault.OtherMe other) = (m.me ≡ other) × (other ≢ me)
+IsNotOwn me m fault.Memory = ⊤
+IsNotOwn me m why = ⊥

@@ -12,7 +12,7 @@ ghost use Rattle.keeper.specs.Pending.{none_pending, with_change};
 ghost use Rattle.keeper.specs.declared.fault.KeepFault.TheVariants as fault;
 
 use crate::fault::KeepFault;
-use crate::opening::restore_own;
+use crate::opening::own_mailbox;
 use crate::pending::Pending;
 use engine::{ApplyFault, Engine};
 use kit::{Addr, Steps};
@@ -37,7 +37,8 @@ pub struct Keeper {
 
 impl Model for Keeper {
     ghost use Rattle.std.specs.Prelude.{◌≤◌};
-    ghost use Rattle.keeper.specs.Keeping.{Keeping, IsWithin};
+    ghost use Rattle.state_store.specs.States.{IsWithin};
+    ghost use Rattle.keeper.specs.Keeping.{Keeping};
 
     ghost Value = { Keeping };
 
@@ -82,7 +83,6 @@ fn has_offsets(position: Position)
 
 impl Keeper {
     ghost use Rattle.indexes.specs.Costs.{load};
-    ghost use Rattle.keeper.specs.Keeping.{IsWithin};
     ghost use Rattle.keeper.specs.Opening.{load_of};
     ghost use Rattle.state_store.specs.Commits.{OldOrNew, commit_reads, commit_writes, fill_of, fill_with};
     ghost use Rattle.state_store.specs.Stands.{stands};
@@ -125,11 +125,11 @@ impl Keeper {
     {
         let Opened {
             store,
-            kept,
-            groups,
-        } = Store::open(alloc, shelf)?;
-        let (mailbox, position) = restore_own(alloc, me, kept, groups)?;
-        let engine = Engine::from_mailbox(alloc, mailbox, steps)?;
+            mailbox,
+            position,
+        } = Store::open(alloc, me, shelf)?;
+        let own = own_mailbox(me, mailbox)?;
+        let engine = Engine::from_mailbox(alloc, own, steps)?;
         Ok(Keeper {
             alloc,
             engine,

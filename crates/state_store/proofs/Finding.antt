@@ -9,6 +9,7 @@ use Rattle.outside.specs.declared.faults.StateFault.TheVariants as fault
 use Rattle.outside.specs.Moments.{LeavesOnly, Reached, WhereKnown, KnownThen}
 use Rattle.outside.proofs.Known.{known_on}
 use Rattle.outside.proofs.Moments.{and_then}
+use Rattle.mailbox_model.specs.Lists.{Bytes}
 use Rattle.mailbox_model.specs.Mailbox.{Mailbox}
 use Rattle.box_state.specs.Kept.{Kept}
 use Rattle.state_image.specs.declared.position.Position.{Position}
@@ -16,7 +17,8 @@ use Rattle.checkpoint.specs.Kept.{kept_of, count_of, seen_kept}
 use Rattle.checkpoint.specs.Saves.{AreSettled}
 use Rattle.tail_journal.specs.Groups.{Applied}
 use Rattle.tail_journal.specs.Read.{groups_from, in_tail, EndsThere, SameReading}
-use Rattle.state_store.specs.Stands.{count_in, with_groups, with_tail, found_of}
+use Rattle.state_store.specs.States.{State}
+use Rattle.state_store.specs.Stands.{Found, count_in, with_groups, with_tail, found_of, stand_of, stands}
 use Rattle.state_store.specs.Stored.{SameFound, end_of, read_size}
 use Rattle.state_store.proofs.Knowing.{same_found}
 
@@ -46,6 +48,21 @@ module _ (kept : Option (Mailbox × Position)) (number : Option ℕ) (count : co
 
   pub finds_same : (q : Places) → Changes T (SameReading number) p q → SameFound p q
   finds_same q changes = same_found p q kept is (subst (λ (n : Option ℕ). Changes T (SameReading n) p q) (sym count) changes)
+
+-- ---- what stands
+
+-- where nothing is found nothing stands
+pub none_stands : (me : Bytes) (p : Places) (why : StateFault) → Fails why (found_of p) → Fails why (stands me p)
+none_stands me p (fault.Damaged place at) e = ap (stand_of me) e
+none_stands me p fault.Disk e = tt
+none_stands me p fault.Memory e = tt
+
+module _ (me : Bytes) (p : Places) (found : Found) (is : found_of p ≡ Ok found) where
+  pub not_restored : (why : StateFault) → Fails why (stand_of me (Ok found)) → Fails why (stands me p)
+  not_restored why e = subst (λ (x : Result Found (Place × ℕ)). Fails why (stand_of me x)) (sym is) e
+
+  pub restored : (s : State) → stand_of me (Ok found) ≡ Ok s → stands me p ≡ Ok s
+  restored s e = ap (stand_of me) is ∙ e
 
 -- ---- over a shelf
 

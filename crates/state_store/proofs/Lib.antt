@@ -1,5 +1,6 @@
 pub mod Knowing
 pub mod Finding
+pub mod Making
 pub mod Standing
 pub mod Appending
 pub mod Saving

@@ -1,11 +1,9 @@
 -- What a store knows of its shelf, and what an opening answers.
-use Rattle.std.specs.Prelude.{◌≡◌, ℕ, List, map, Option, None, Some, is_some, option_map, Result, Ok, Err}
+use Rattle.std.specs.Prelude.{◌≡◌, ℕ, List, map, Option, None, Some, is_some, Result, Ok, Err}
 use Rattle.outside.specs.declared.shelf.Place.TheVariants.{T}
 use Rattle.outside.specs.Places.{Places}
-use Rattle.box_state.specs.Kept.{Kept}
-use Rattle.state_image.specs.declared.position.Position.{Position}
 use Rattle.checkpoint.specs.Slots.{chosen_of}
-use Rattle.checkpoint.specs.Kept.{number_of}
+use Rattle.checkpoint.specs.Kept.{number_of, seen_kept}
 use Rattle.checkpoint.specs.Known.{Knows}
 use Rattle.tail_journal.specs.Groups.{Reading, reading}
 use Rattle.tail_journal.specs.Tails.{IsTail}
@@ -13,6 +11,8 @@ use Rattle.tail_journal.specs.Read.{applied_of, EndsThere}
 use Rattle.state_store.specs.Commits.{Fill}
 use Rattle.state_store.specs.Stands.{Found, found_of}
 use Rattle.state_store.specs.declared.store.Store.{Store}
+use Rattle.state_store.specs.States.{State, state_of}
+use Rattle.state_store.specs.declared.opening.Contents.{Contents}
 use Rattle.state_store.specs.declared.store.Opened.{Opened}
 
 -- The three places are settled, the store knows what it has to of them, and reading T from the count of the chosen slot
@@ -39,11 +39,11 @@ read_size (Some count) bytes = end_of (reading count bytes)
 abbrev pub fill_in : Places → Fill
 fill_in places = record { chosen = is_some (chosen_of places); tail = read_size (number_of (chosen_of places)) places.t }
 
-abbrev pub found_in : Opened → Found
-found_in opened = record {
-  kept = option_map (λ (read : Kept × Position). (read.0.mailbox, read.1)) opened.kept;
-  groups = map applied_of opened.groups.items;
-}
+abbrev pub found_in : Contents → Found
+found_in contents = record { kept = seen_kept contents.kept; groups = map applied_of contents.groups.items }
+
+abbrev pub state_in : Opened → State
+state_in opened = state_of (opened.mailbox, opened.position)
 
 -- the same is found
 abbrev pub SameFound : Places → Places → Type 0

@@ -4,6 +4,7 @@
 
 mod commit;
 mod opening;
+mod standing;
 mod store;
 
 pub use store::{Opened, Store};

@@ -3,19 +3,19 @@ ghost use Rattle.std.specs.Prelude.{◌≡◌, ◌⊎◌, ◌≤◌, ◌+◌, tr
 ghost use Rattle.outside.specs.Causes.{Rose};
 ghost use Rattle.outside.specs.Crash.{RisesUpTo};
 ghost use Rattle.outside.specs.Moments.{LeavesOnly, Reached, WhereKnown, KnownThen};
-ghost use Rattle.checkpoint.specs.Kept.{count_of};
 ghost use Rattle.outside.specs.declared.faults.StateFault.TheVariants as fault;
 
 use crate::commit::{append_changes, save_state};
-use crate::opening::open_tail;
+use crate::opening::{Contents, find};
+use crate::standing::restore;
 use box_state::Mailbox;
 use checkpoint::Slots;
-use kit::Steps;
+use kit::{Addr, Steps};
 use outside::{Shelf, StateFault};
 use state_image::Position;
 use std::alloc::Global;
 use std::sync::ledger::Ledger;
-use tail_journal::{GROUP_HEAD, Group, Tail};
+use tail_journal::{GROUP_HEAD, Tail};
 
 /// The most bytes that the tail may have.
 const MAX_TAIL: u64 = 8_388_608;
@@ -29,70 +29,62 @@ pub struct Store {
     pub(crate) chosen: bool,
 }
 
-/// What is found in a store.
+/// What a store keeps.
 #[derive(Drop)]
 pub struct Opened {
     /// The store, to which changes can be committed.
     pub store: Store,
-    /// What the chosen slot keeps. `None` exactly where no slot is open.
-    pub kept: Option<(Mailbox, Position)>,
-    /// The groups of the tail that are to be applied to it, one after the other.
-    pub groups: Vec<Group>,
-}
-
-/// The count of what is kept, where anything is.
-fn count_of(kept: &Option<(Mailbox, Position)>) -> Option<u64>
-    ensures { result ≡ count_of kept.now }
-{
-    match kept {
-        Some((_, position)) => Some(position.count),
-        None => None,
-    }
+    /// The mailbox of the state that stands.
+    pub mailbox: Mailbox,
+    /// Its position: the count is at most 2^62, and `lines` at most `steps`.
+    pub position: Position,
 }
 
 impl Store {
-    ghost use Rattle.box_state.specs.declared.ready.Ready.TheVariants.{Unready};
-    ghost use Rattle.std.specs.List.{AllByRecursion};
     ghost use Rattle.outside.specs.StateFaults.{Gives};
-    ghost use Rattle.state_image.specs.Images.{IsPosition};
-    ghost use Rattle.tail_journal.specs.Read.{applied_of, FitsApplied};
+    ghost use Rattle.state_store.specs.States.{IsWithin};
     ghost use Rattle.state_store.specs.Commits.{Commits, MakeBatch, OldOrNew, commit_reads, commit_writes, falls_due, fill_of, fill_with};
-    ghost use Rattle.state_store.specs.Stands.{found_of, stands};
-    ghost use Rattle.state_store.specs.Stored.{found_in, fill_in, IsStored, SameFound};
+    ghost use Rattle.state_store.specs.Stands.{stands};
+    ghost use Rattle.state_store.specs.Stored.{state_in, fill_in, IsStored, SameFound};
 
-    /// Opens the store of a shelf: what the chosen slot keeps, and the groups of the tail that are to be applied after it. What
-    /// is after them in T is cut off; without a chosen slot all of it. Takes memory for what is kept.
+    /// Opens the store of a shelf, for an own address: the state that stands, which is what the chosen slot keeps after the
+    /// groups of the tail that are to be applied. Where no slot is chosen it is the empty mailbox of the address. What is
+    /// after those groups in T is cut off; without a chosen slot all of it. Takes memory for what is kept.
     ///
     /// `Disk` comes only at a fault of the shelf. `Damaged` comes exactly where the chosen slot is damaged, or a group that is
-    /// to be applied is, with the place and the offset there.
+    /// to be applied is or has a change for which the mailbox has no place, with the place and the offset there.
     ///
-    /// - `gives`: what is found is that of what the reads give at the start.
-    /// - `same`, `stored`: after Ok the reads give the same, and the shelf is settled for the store.
+    /// - `gives`: the state is the one that stands in what the reads give at the start.
+    /// - `same`, `stored`: after Ok the same is found on the shelf, and it is settled for the store.
     /// - `fill`: the store has a chosen slot where there is one, and as many bytes of the tail as are read.
-    /// - `valid`: the changes of the groups are valid, and so are their positions.
     /// - `any_moment`: a crash at any moment leaves that in which the same is found as in what it might have left at the start.
     /// - `written`: nothing is written.
-    pub fn open<H: Shelf>(alloc: Global, shelf: &mut H) -> Result<Opened, StateFault>
-        ensures gives { WhereKnown (H.seen shelf.old) (λ places. Gives found_in result (found_of places)) }
+    pub fn open<H: Shelf>(
+        alloc: Global,
+        me: &Addr,
+        shelf: &mut H,
+    ) -> Result<Opened, StateFault>
+        ensures gives { WhereKnown (H.seen shelf.old) (λ places. Gives state_in result (stands me.now places)) }
+        ensures within { IfOk result (λ opened. IsWithin opened.position) }
         ensures same { OnOk result (KnownThen (H.seen shelf.old) (H.seen shelf.new) SameFound) }
         ensures stored { IfOk result (λ opened. WhereKnown (H.seen shelf.new) (IsStored opened.store (H.may_leave shelf.new))) }
         ensures fill { IfOk result (λ opened. WhereKnown (H.seen shelf.old) (λ places. fill_of opened.store ≡ fill_in places)) }
         ensures any_moment { WhereKnown (H.seen shelf.old) (λ _. LeavesOnly H.moment H.left_since shelf.old shelf.new
             (Reached (H.may_leave shelf.old) SameFound)) }
-        ensures valid { IfOk result (λ opened. AllByRecursion FitsApplied (map applied_of opened.groups.items)) }
-        ensures ready { IfOk result (λ opened. IfSome opened.kept (λ read. read.0.ready ≡ Unready)) }
-        ensures position { IfOk result (λ opened. IfSome opened.kept (λ read. IsPosition read.1)) }
         ensures written { H.written shelf.new ≡ H.written shelf.old }
         ensures later { H.faults shelf.old ≤ H.faults shelf.new }
         ensures cause { IsErrOf result StateFault.Disk → Rose (H.faults shelf.old) (H.faults shelf.new) }
     {
-        let checkpoint::Opened { slots, kept } = Slots::open(alloc, shelf)?;
-        let number = count_of(&kept);
-        let (store, groups) = open_tail(alloc, shelf, slots, number)?;
-        Ok(Opened {
+        let Contents {
             store,
             kept,
             groups,
+        } = find(alloc, shelf)?;
+        let (mailbox, position) = restore(alloc, me, kept, groups)?;
+        Ok(Opened {
+            store,
+            mailbox,
+            position,
         })
     }
 

@@ -3,7 +3,8 @@ use Rattle.mboxrd.specs.Reading as mbox_reading
 use Rattle.outside.specs.Moments.{LeavesOnly, WhereKnown}
 use Rattle.state_store.specs.Stored.{IsStored}
 use Rattle.steps_file.specs.Reading as steps_reading
-use Rattle.keeper.specs.Keeping.{IsKept, max_changes}
+use Rattle.state_store.specs.States.{max_changes}
+use Rattle.keeper.specs.Keeping.{IsKept}
 use Rattle.follower.specs.Committing.{LinesToCome, OnWay, Outset, Prefix}
 use Rattle.follower.specs.Spending.{counts}
 use Rattle.follower.specs.Feed.{Feed}

@@ -2,7 +2,8 @@ use Rattle.std.proofs.Common.{◌≡◌, ◌≤◌, ◌-◌, ℕ, List, false}
 use Rattle.mboxrd.specs.Reading as mbox_reading
 use Rattle.outside.specs.Moments.{LeavesOnly, WhereKnown}
 use Rattle.state_store.specs.Stored.{IsStored}
-use Rattle.keeper.specs.Keeping.{IsKept, max_changes}
+use Rattle.state_store.specs.States.{max_changes}
+use Rattle.keeper.specs.Keeping.{IsKept}
 use Rattle.follower.specs.Committing.{MailsToCome, OnWay, Outset, Prefix}
 use Rattle.follower.specs.Spending.{counts}
 use Rattle.follower.specs.Feed.{Feed}

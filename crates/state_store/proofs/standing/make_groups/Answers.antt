@@ -5,9 +5,9 @@ use Rattle.std.proofs.lemmas.List.{map-append}
 use Rattle.std.proofs.lemmas.Result.{err_from_is_err_and}
 use Rattle.tail_journal.specs.Read.{applied_of}
 use Rattle.state_store.specs.Stands.{after_groups}
-use Rattle.keeper.specs.Opening.{state_of}
-use Rattle.keeper.proofs.Making.{group_fits, groups_next, groups_no_more, next_group}
-use Rattle.keeper.proofs.opening.make_groups.Goals as goal
+use Rattle.state_store.specs.States.{state_of}
+use Rattle.state_store.proofs.Making.{group_fits, groups_next, groups_no_more, next_group}
+use Rattle.state_store.proofs.standing.make_groups.Goals as goal
 
 pub make_changes-requires : goal.make_changes-requires
 make_changes-requires c =

@@ -3,18 +3,16 @@ use Rattle.std.proofs.Common.{◌≡◌, ℕ, zero, suc, ◌<◌, List, [], ◌�
 use Rattle.std.proofs.lemmas.List.{map-append}
 use Rattle.std.specs.List.{AllByRecursion}
 use Rattle.std.proofs.lemmas.Bool.{cases_Bool}
-use Rattle.outside.specs.declared.shelf.Place.{Place}
 use Rattle.mailbox_model.specs.declared.change.Change.{Change}
 use Rattle.mailbox_model.specs.Mailbox.{Mailbox, after, full}
 use Rattle.card_record.specs.Reading.{◌>>=◌}
 use Rattle.tail_journal.specs.Groups.{Applied}
-use Rattle.tail_journal.specs.Read.{in_tail, applied_of, FitsApplied}
+use Rattle.tail_journal.specs.Read.{applied_of, Fails, FitsApplied}
 use Rattle.tail_journal.specs.declared.group.Group.{Group}
 use Rattle.state_store.specs.States.{State}
 use Rattle.state_store.specs.Stands.{made, after_group, after_groups}
 use Rattle.outside.specs.declared.faults.StateFault.{StateFault}
-use Rattle.outside.specs.declared.faults.StateFault.TheVariants as fault
-use Rattle.keeper.specs.Opening.{Fails}
+use Rattle.tail_journal.proofs.Steps.{fails_first}
 
 -- ---- one item of a list
 
@@ -30,15 +28,6 @@ next_of all taken x so_far less is = split_at all (length taken) x less is ∙ a
 pub all_at : {X : Type 0} (P : X → Type 0) (xs : List X) (x : X) (ys : List X) → AllByRecursion P (xs ++ x ∷ ys) → P x
 all_at P [] x ys all = all.0
 all_at P (z ∷ zs) x ys all = all_at P zs x ys all.1
-
--- ---- what fails
-
--- what fails at its first step fails
-pub fails_first : {X Y : Type 0} (why : StateFault) (x : Result X ℕ) (f : X → Result Y ℕ) → Fails why (in_tail x) → Fails why (in_tail (x >>= f))
-fails_first (fault.Damaged place at) (Ok x) f fails = absurd (cc)
-fails_first (fault.Damaged place at) (Err n) f fails = let same : in_tail {X = Place} (Err n) ≡ Err (place, at) = cc in cc
-fails_first fault.Disk x f fails = absurd fails
-fails_first fault.Memory x f fails = tt
 
 -- ---- changes
 
@@ -59,11 +48,11 @@ module _ (start now : Mailbox) (all done : List (ℕ × Change)) (x : ℕ × Cha
   pub made_next : (next : Mailbox) → made now (x ∷ []) ≡ Ok next → made start (done ++ x ∷ []) ≡ Ok next
   made_next next is = made_all start done (x ∷ []) ∙ ap (λ (r : Result Mailbox ℕ). r >>= λ n. made n (x ∷ [])) so_far ∙ is
 
-  pub made_no_more : (more : List (ℕ × Change)) → all ≡ done ++ x ∷ more → (why : StateFault) → Fails why (in_tail (made now (x ∷ []))) → Fails why (in_tail (made start all))
+  pub made_no_more : (more : List (ℕ × Change)) → all ≡ done ++ x ∷ more → (why : StateFault) → Fails why (made now (x ∷ [])) → Fails why (made start all)
   made_no_more more is why fails =
       let here : made start all ≡ made now (x ∷ more) = ap (made start) is ∙ made_all start done (x ∷ more) ∙ ap (λ (r : Result Mailbox ℕ). r >>= λ n. made n (x ∷ more)) so_far in
       let all_fail = fails_first why (made now (x ∷ [])) (λ n. made n more) fails in
-      subst (λ (r : Result Mailbox ℕ). Fails why (in_tail r)) (sym (here ∙ made_all now (x ∷ []) more)) all_fail
+      subst (λ (r : Result Mailbox ℕ). Fails why r) (sym (here ∙ made_all now (x ∷ []) more)) all_fail
 
 -- ---- groups
 
@@ -89,12 +78,12 @@ module _ (start now : State) (all done : List Applied) (x : Applied) (so_far : a
       groups_all start done (x ∷ []) ∙ ap (λ (r : Result State ℕ). r >>= λ t. after_groups t (x ∷ [])) so_far
       ∙ one_more ∙ ap (λ (r : Result Mailbox ℕ). r >>= λ m. Ok (record { mailbox = m; position = x.position })) is
 
-  pub groups_no_more : (more : List Applied) → all ≡ done ++ x ∷ more → (why : StateFault) → Fails why (in_tail (made now.mailbox x.changes)) → Fails why (in_tail (after_groups start all))
+  pub groups_no_more : (more : List Applied) → all ≡ done ++ x ∷ more → (why : StateFault) → Fails why (made now.mailbox x.changes) → Fails why (after_groups start all)
   groups_no_more more is why fails =
       let here : after_groups start all ≡ after_groups now (x ∷ more) = ap (after_groups start) is ∙ groups_all start done (x ∷ more) ∙ ap (λ (r : Result State ℕ). r >>= λ t. after_groups t (x ∷ more)) so_far in
       let group_fails = fails_first why (made now.mailbox x.changes) (λ m. Ok (record { mailbox = m; position = x.position })) fails in
       let all_fail = fails_first why (after_group now x) (λ t. after_groups t more) group_fails in
-      subst (λ (r : Result State ℕ). Fails why (in_tail r)) (sym here) all_fail
+      subst (λ (r : Result State ℕ). Fails why r) (sym here) all_fail
 
 -- ---- groups as they are read
 
