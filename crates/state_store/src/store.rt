@@ -59,11 +59,7 @@ impl Store {
     /// - `fill`: the store has a chosen slot where there is one, and as many bytes of the tail as are read.
     /// - `any_moment`: a crash at any moment leaves that in which the same is found as in what it might have left at the start.
     /// - `written`: nothing is written.
-    pub fn open<H: Shelf>(
-        alloc: Global,
-        me: &Addr,
-        shelf: &mut H,
-    ) -> Result<Opened, StateFault>
+    pub fn open<H: Shelf>(alloc: Global, me: &Addr, shelf: &mut H) -> Result<Opened, StateFault>
         ensures gives { WhereKnown (H.seen shelf.old) (λ places. Gives state_in result (stands me.now places)) }
         ensures within { IfOk result (λ opened. IsWithin opened.position) }
         ensures same { OnOk result (KnownThen (H.seen shelf.old) (H.seen shelf.new) SameFound) }

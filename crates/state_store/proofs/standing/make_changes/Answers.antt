@@ -21,4 +21,4 @@ returns-in_err-make_change-clause-makes c =
     let turn = YieldsList-turn road taken c.loop-at.at-iterator c.loop-at.yielded_by c.next.result c.next.new.self (c.in-Some.at, c.in-Some.change) c.in-Some.is c.next.ensures.steps in
     let is = next_of all taken (c.in-Some.at, c.in-Some.change) (sym (map-id taken) ∙ so_far) turn.0 turn.1 in
     rw (p.1, p.2) (made_no_more c.args.mailbox.now.mailbox c.loop-at.mailbox.mailbox all taken (c.in-Some.at, c.in-Some.change) c.loop-at.invariant
-          (drop (suc (length taken)) all) is c.in_err-make_change.field-0.0 c.in_err-make_change.ensures.makes)
+    (drop (suc (length taken)) all) is c.in_err-make_change.field-0.0 c.in_err-make_change.ensures.makes)

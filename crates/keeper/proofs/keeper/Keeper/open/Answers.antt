@@ -33,9 +33,10 @@ pub returns-clause-opens : goal.returns-clause-opens
 returns-clause-opens g c places is =
     let opened = c.in_ok-store.field-0 in
     let own = c.in_ok-own.ensures.same in
-    let mailbox = c.in_ok-engine.ensures.mailbox ∙ ap (λ (k : Kept). k.mailbox) own in
-    (c.in_ok-store.ensures.gives places is ∙ ap (λ (m : Mailbox). Ok (record { mailbox = m; position = opened.position })) (sym mailbox),
-    ap (λ (m : Mailbox). m.me) c.in_ok-engine.ensures.mailbox ∙ c.in_ok-own.ensures.own)
+    let mailbox = c.in_ok-engine.ensures.mailbox ∙ ap (λ (k : Kept). k.mailbox) own in (
+      c.in_ok-store.ensures.gives places is ∙ ap (λ (m : Mailbox). Ok (record { mailbox = m; position = opened.position })) (sym mailbox),
+      ap (λ (m : Mailbox). m.me) c.in_ok-engine.ensures.mailbox ∙ c.in_ok-own.ensures.own,
+    )
 
 pub returns-clause-kept : goal.returns-clause-kept
 returns-clause-kept g c =
