@@ -4,7 +4,7 @@
 
 mod commit;
 mod opening;
-mod standing;
+mod restoring;
 mod store;
 
 pub use store::{Opened, Store};

@@ -7,7 +7,7 @@ ghost use Rattle.outside.specs.declared.faults.StateFault.TheVariants as fault;
 
 use crate::commit::{append_changes, save_state};
 use crate::opening::{Contents, find};
-use crate::standing::restore;
+use crate::restoring::restore;
 use box_state::Mailbox;
 use checkpoint::Slots;
 use kit::{Addr, Steps};

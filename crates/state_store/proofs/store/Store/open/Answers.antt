@@ -5,7 +5,7 @@ use Rattle.state_store.proofs.store.Store.open.Goals as goal
 
 pub returns-in_err-store-clause-gives : goal.returns-in_err-store-clause-gives
 returns-in_err-store-clause-gives g c places is =
-    let p = err_from_is_err_and c.from_residual-in_err-store.result c.from_residual-in_err-store.ensures.1 in
+    let p = err_from_is_err_and c.from_residual.result c.from_residual.ensures.1 in
     rw (p.1, p.2) (none_stands c.args.me.now places c.in_err-store.field-0.0 (c.in_err-store.ensures.gives places is))
 
 pub returns-in_err-mailbox-clause-gives : goal.returns-in_err-mailbox-clause-gives

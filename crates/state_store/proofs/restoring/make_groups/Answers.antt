@@ -7,7 +7,7 @@ use Rattle.tail_journal.specs.Read.{applied_of}
 use Rattle.state_store.specs.Stands.{after_groups}
 use Rattle.state_store.specs.States.{state_of}
 use Rattle.state_store.proofs.Making.{group_fits, groups_next, groups_no_more, next_group}
-use Rattle.state_store.proofs.standing.make_groups.Goals as goal
+use Rattle.state_store.proofs.restoring.make_groups.Goals as goal
 
 pub make_changes-requires : goal.make_changes-requires
 make_changes-requires c =

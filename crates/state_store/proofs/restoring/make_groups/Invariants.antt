@@ -2,7 +2,7 @@ use Rattle.std.proofs.Common.{◌≡◌, map, Ok}
 use Rattle.tail_journal.specs.Read.{applied_of}
 use Rattle.state_store.specs.Stands.{after_groups}
 use Rattle.state_store.specs.States.{IsWithin, state_of}
-use Rattle.state_store.proofs.standing.make_groups.Given as goal
+use Rattle.state_store.proofs.restoring.make_groups.Given as goal
 
 -- the groups so far are made
 abbrev pub invariant-loop-group : goal.invariant-loop-group
