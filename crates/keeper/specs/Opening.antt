@@ -3,6 +3,7 @@ use Rattle.std.specs.Prelude.{◌≡◌, ◌≢◌, ⊤, ℕ, Result, Ok, Err}
 use Rattle.outside.specs.declared.shelf.Place.{Place}
 use Rattle.outside.specs.Places.{Places}
 use Rattle.mailbox_model.specs.Lists.{Bytes}
+use Rattle.mailbox_model.specs.Mailbox.{Mailbox}
 use Rattle.indexes.specs.Costs.{load}
 use Rattle.state_store.specs.States.{State}
 use Rattle.state_store.specs.Stored.{SameFound}

@@ -86,6 +86,7 @@ impl Keeper {
     ghost use Rattle.keeper.specs.Opening.{load_of};
     ghost use Rattle.state_store.specs.Commits.{OldOrNew, commit_reads, commit_writes, fill_of, fill_with};
     ghost use Rattle.state_store.specs.Stands.{stands};
+    ghost use Rattle.state_store.specs.States.{IsWithin};
     ghost use Rattle.state_store.specs.Stored.{IsStored, SameFound, fill_in};
 
     /// Opens what a shelf keeps, for an own address: the state that stands, with no change pending. Where nothing is kept

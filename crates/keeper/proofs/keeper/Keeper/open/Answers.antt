@@ -13,7 +13,7 @@ use Rattle.keeper.proofs.keeper.Keeper.open.Goals as goal
 
 pub returns-in_err-store-clause-opens : goal.returns-in_err-store-clause-opens
 returns-in_err-store-clause-opens g c places is =
-    let p = err_from_is_err_and c.from_residual-in_err-store.result c.from_residual-in_err-store.ensures.1 in
+    let p = err_from_is_err_and c.from_residual.result c.from_residual.ensures.1 in
     rw (p.1, p.2) (cause_of c.args.me.now (stands c.args.me.now places) c.in_err-store.field-0.0 (c.in_err-store.ensures.gives places is))
 
 pub returns-in_err-own-clause-other : goal.returns-in_err-own-clause-other
