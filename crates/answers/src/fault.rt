@@ -18,7 +18,7 @@ pub enum AnswerFault {
     #[error("no such app")]
     NoApp,
     /// The sink failed, and a prefix of the answer may have been put.
-    #[error("the text could not be written")]
+    #[error("write fault")]
     Write,
     /// Memory ran out, and nothing was put.
     #[error("out of memory")]

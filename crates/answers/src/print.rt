@@ -64,8 +64,7 @@ fn print_the_list<K: Sink, L: Ledger>(
     ensures later { K.faults out.old ≤ K.faults out.new }
     ensures cost { steps.new ≤ steps.old + answer_cost engine.now.mailbox question.List }
 {
-    // For its clause `rules`: the dates of a mailbox are moments.
-    let _me = engine.mailbox().me();
+    engine.keeps_rules();
     pages_have_moments();
     let page = engine.list(steps)?;
     Ok(print_list(alloc, &page, out)?)
@@ -100,8 +99,7 @@ fn print_the_chat<K: Sink, L: Ledger>(
     ensures later { K.faults out.old ≤ K.faults out.new }
     ensures cost { steps.new ≤ steps.old + answer_cost engine.now.mailbox (question.Chat text.now) }
 {
-    // For its clause `rules`: the dates of a mailbox are moments, and its keys are keys.
-    let _me = engine.mailbox().me();
+    engine.keeps_rules();
     pages_have_moments();
     let Some(key) = ChatKey::read(alloc, text.bytes())? else {
         return Err(AnswerFault::NoChat);

@@ -94,8 +94,8 @@ impl<T: Test> Listener<T> {
         ensures cause { IfErr result (IsUpdatesCause self.old.id engine.now) }
         ensures cost { steps.new ≤ steps.old + row_cost engine.now.mailbox self.old.id }
     {
-        // For its clause `rules`: no app of a mailbox has 2^32 updates.
-        let _me = engine.mailbox().me();
+        // No app of a mailbox has 2^32 updates.
+        engine.keeps_rules();
         a_mailbox_is_bounded();
         let rows = engine.updates(&self.id, steps)?;
         let heard = self.tell(rows.as_slice())?;

@@ -13,14 +13,6 @@ use outside::{PrintFault, Sink};
 use rand_core::SeedableRng;
 use rand_pcg::Lcg64Xsh32;
 use std::alloc::Global;
-use std::str;
-
-/// The bytes of an address, which are text.
-fn text_of(addr: &Addr) -> &str
-    ensures { result.now ≡ addr.now }
-{
-    str::from_utf8(addr.bytes()).unwrap()
-}
 
 /// The trial mailbox with this number, of `n` mails to `me` and others: an mbox in which each mail stands between the
 /// separator `From -` and an empty line. It has no byte where `n` is 0. What is drawn for its mails goes by the number and
@@ -28,7 +20,7 @@ fn text_of(addr: &Addr) -> &str
 pub fn box_bytes(alloc: Global, number: u64, n: u32, me: &Addr) -> Result<Vec<u8>, Memory>
     ensures { IfOk result (λ bytes. bytes.items ≡ trial_box number n me.now) }
 {
-    let me = text_of(me);
+    let me = me.as_str();
     let mut generator = Lcg64Xsh32::seed_from_u64(number);
     let mut text = String::new(alloc);
     for made in 0..n {

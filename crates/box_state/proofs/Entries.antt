@@ -17,7 +17,7 @@ use Rattle.mailbox_model.specs.Mailbox.{Mailbox, Entry, item_of, has_uid, entry_
 use Rattle.mailbox_model.proofs.ChatLaws.{or_none}
 use Rattle.mailbox_model.proofs.RuleLaws.{entry_again}
 use Rattle.mailbox_model.proofs.UidLaws.{below, each_found, card-marked}
-use Rattle.box_state.specs.Entries.{with_entry}
+use Rattle.box_state.specs.Kept.{with_entry}
 use Rattle.box_state.specs.Inside.{entries_by, AreEntries}
 
 abbrev pub Cards : Type 0

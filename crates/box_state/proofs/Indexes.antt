@@ -14,7 +14,7 @@ use Rattle.std.proofs.lemmas.Cmp.{nat_cmp_total, on_total}
 use Rattle.std.proofs.lemmas.List.{length-map}
 use Rattle.std.proofs.lemmas.Map.Lookups.{exact_unsigned}
 use Rattle.lists.proofs.Inserts.{None_of, none_found, none_filtered}
-use Rattle.sorted_lists.proofs.Searches as searches
+use Rattle.lists.proofs.Searches as searches
 use Rattle.mailbox_model.specs.declared.item.Item.{Item}
 use Rattle.mailbox_model.specs.declared.item.Held.TheVariants as is_held
 use Rattle.mailbox_model.specs.Mailbox.{Mailbox, Entry, item_of, has_uid, entry_at, item_at, marked_at, RiseBelow}

@@ -24,7 +24,8 @@ use Rattle.box_state.specs.declared.ready.Ready.TheVariants.{Unready, ForCard}
 use Rattle.box_state.specs.declared.mailbox.Mailbox.TheInside.{Inside}
 use Rattle.box_state.specs.Stores.{Store}
 use Rattle.box_state.specs.Spots.{SpotTable, spot_at, copies_at, copies_with, copies_but, ties}
-use Rattle.box_state.specs.Entries.{entry_with, with_entry}
+use Rattle.box_state.specs.Entries.{entry_with}
+use Rattle.box_state.specs.Kept.{with_entry}
 use Rattle.box_state.specs.Inside.{mailbox_in, HasRoomFor, IsKept}
 use Rattle.box_state.proofs.Entries.{entries_put, put_below, rise_put, not_there, none_put, entries_left, weights_left, all_left, none_marked, entries_marked, weights_marked, mark_item}
 use Rattle.box_state.proofs.Places.{spot_absent, copies_apart, spots_put, spots_same, spots_left, spots_marked}
@@ -171,9 +172,9 @@ module _ (a : Inside) (k : IsKept a) where
     room = room;
   }
 
--- a card that has its place in a mailbox weighs less than a number of 64 bits holds
-pub light : (m : Mailbox) (item : Item) (card : Card) → IsMailbox (with_entry m (entry_with item (Ok card))) → weight card ≤ max_total_weight
-light m item card rules = omega (arith, rules.weight_fits, sum_by_push (λ x. weight_read x.read) m.entries (entry_with item (Ok card)))
+-- what follows the entries of a mailbox weighs less than a number of 64 bits holds
+pub light : (m : Mailbox) (e : Entry) → IsMailbox (with_entry m e) → weight_read e.read ≤ max_total_weight
+light m e rules = omega (arith, rules.weight_fits, sum_by_push (λ x. weight_read x.read) m.entries e)
 
 -- the spot of a card with a copy of its id
 pub is_spot : (item : Item) (card : Card) (id : Bytes) (made : Spot) → made ≡ record { date = effective_date card.date item.arrival; id = id; uid = item.uid }

@@ -27,7 +27,7 @@ use Rattle.mailbox_model.specs.Turns.{is_mail, mark_mail}
 use Rattle.mailbox_model.proofs.MailLaws.{is_below, line_of, mails-expunge, mails-seen, AllUnder}
 use Rattle.mailbox_model.proofs.UidLaws.{mails_own}
 use Rattle.box_state.specs.Spots.{SpotTable, spot_at, copies_at, copies_with, copies_but, dated, dated_cmp, ties}
-use Rattle.box_state.specs.Entries.{with_entry}
+use Rattle.box_state.specs.Kept.{with_entry}
 use Rattle.box_state.specs.Inside.{AreSpots}
 use Rattle.box_state.proofs.Entries.{AllBelow, not_there, entry_put, entry_left, entry_marked, under_put, under_left}
 

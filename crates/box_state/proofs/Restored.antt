@@ -1,36 +1,22 @@
 -- A mailbox made again of its values, item by item.
-use Rattle.std.proofs.Common.{◌≡◌, refl, sym, ap, ◌∙◌, subst, ℕ, zero, suc, ◌+◌, ◌≤◌, ◌<◌, true, Option, Some, None, Ok, Err, List, [], ◌∷◌, ◌++◌, length, take, drop, get_or, length-append, append_assoc, arith}
+use Rattle.std.proofs.Common.{◌≡◌, refl, sym, ap, ◌∙◌, subst, ℕ, zero, suc, ◌+◌, ◌≤◌, ◌<◌, true, Option, Some, List, [], ◌∷◌, ◌++◌, length, take, drop, get_or, length-append, append_assoc, arith}
 use Rattle.std.specs.List.{AllByRecursion}
-use Rattle.std.proofs.lemmas.Bool.{false≢true}
 use Rattle.std.proofs.lemmas.List.Elements.{filter_map-append}
 use Rattle.std.proofs.lemmas.List.Sums.{sum_by-append}
 use Rattle.card_type.specs.declared.card.Card.{Card}
-use Rattle.mailbox_model.specs.declared.change.Fault.{Fault}
-use Rattle.mailbox_model.specs.declared.item.Held.{Held}
 use Rattle.mailbox_model.specs.declared.item.Held.TheVariants as is_held
 use Rattle.mailbox_model.specs.declared.item.Item.{Item}
 use Rattle.mailbox_model.specs.Lists.{Bytes}
 use Rattle.mailbox_model.specs.Mailbox.{Mailbox, Entry, entry_of, weight_read, IsEntry, IsMailbox, RiseBelow}
-use Rattle.box_state.specs.Kept.{is_beside, AreBeside, entries_of, mailbox_of}
-use Rattle.box_state.specs.Entries.{entry_with, with_entry, with_item}
+use Rattle.box_state.specs.Kept.{with_entry, is_beside, AreBeside, entries_of, mailbox_of}
+use Rattle.box_state.specs.Entries.{with_item}
 
 -- ---- one item
 
-pub holds_card : (held : Held) (card : Card) → is_beside held (Some card) ≡ true → held ≡ is_held.Card
-holds_card is_held.Card card h = refl
-holds_card (is_held.Fault fault) card h = absurd (false≢true h)
-
-pub holds_no_card : (held : Held) → is_beside held None ≡ true → held ≡ is_held.Card → ⊥
-holds_no_card is_held.Card h e = false≢true h
-holds_no_card (is_held.Fault fault) h e = cc
-
-pub with_card : (m : Mailbox) (item : Item) (card : Card) → item.held ≡ is_held.Card
-    → with_item m item (Some card) ≡ with_entry m (entry_with item (Ok card))
-with_card m item card h = ap (λ held. with_item m (record item { held = held }) (Some card)) h
-
-pub with_fault : (m : Mailbox) (item : Item) (fault : Fault) → item.held ≡ is_held.Fault fault
-    → with_item m item None ≡ with_entry m (entry_with item (Err fault))
-with_fault m item fault h = ap (λ held. with_item m (record item { held = held }) None) h
+pub with_made : (m : Mailbox) (item : Item) (card : Option Card) (e : Entry) → Some e ≡ entry_of item card → with_item m item card ≡ with_entry m e
+with_made m item card e is =
+    let one : entries_of ((item, card) ∷ []) ≡ e ∷ [] = rw (sym is) refl in
+    ap (λ es. record m { entries = m.entries ++ es }) one
 
 -- ---- some of the items
 

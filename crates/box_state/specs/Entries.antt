@@ -16,10 +16,6 @@ pub record IsEntryAt (m : Mailbox) (uid index : ℕ) : Type 0 where
 abbrev pub entry_with : Item → Result Card Fault → Entry
 entry_with item read = record { uid = item.uid; arrival = item.arrival; seen = item.seen; read = read }
 
--- an entry more, after the others
-abbrev pub with_entry : Mailbox → Entry → Mailbox
-with_entry m entry = record m { entries = m.entries ++ entry ∷ [] }
-
 -- an item more, with its card
 abbrev pub with_item : Mailbox → Item → Option Card → Mailbox
 with_item m item card = record m { entries = m.entries ++ entries_of ((item, card) ∷ []) }

@@ -1,5 +1,5 @@
 -- A mailbox as contracts see it, and what its fields keep.
-use Rattle.std.specs.Prelude.{◌≡◌, ℕ, Bool, true, false, Option, Some, None, List, filter_map}
+use Rattle.std.specs.Prelude.{◌≡◌, ℕ, Bool, true, false, Option, Some, None, List, [], ◌∷◌, ◌++◌, filter_map}
 use Rattle.std.specs.List.{AllByRecursion}
 use Rattle.card_type.specs.declared.card.Card.{Card}
 use Rattle.mailbox_model.specs.declared.change.Change.{Change}
@@ -9,6 +9,7 @@ use Rattle.mailbox_model.specs.declared.item.Held.TheVariants as is_held
 use Rattle.mailbox_model.specs.declared.item.Item.{Item}
 use Rattle.mailbox_model.specs.Lists.{Bytes}
 use Rattle.mailbox_model.specs.Mailbox.{Mailbox, Entry, entry_of}
+use Rattle.box_state.specs.declared.entry.Entry as put_back
 use Rattle.box_state.specs.declared.ready.Ready.{Ready}
 use Rattle.box_state.specs.declared.ready.Ready.TheVariants.{Unready, ForFault, ForCard}
 
@@ -37,6 +38,16 @@ is_arrival (At moment) = false
 -- it has the room that this change needs
 abbrev pub IsReady : Ready → Change → Type 0
 IsReady ready change = is_arrival change ≡ true → ready ≡ ready_for change
+
+-- ---- what is put back
+
+-- an entry of the code
+abbrev pub entry_in : put_back.Entry → Entry
+entry_in e = record { uid = e.uid; arrival = e.arrival; seen = e.seen; read = e.read }
+
+-- an entry more, after the others
+abbrev pub with_entry : Mailbox → Entry → Mailbox
+with_entry m entry = record m { entries = m.entries ++ entry ∷ [] }
 
 -- ---- items with their cards
 

@@ -5,7 +5,7 @@ use Rattle.std.specs.declared.cmp.Ordering.{Ordering}
 use Rattle.std.specs.Map.{lookup}
 use Rattle.std.specs.Str.{bytes_eq}
 use Rattle.lists.specs.Sorted.{insert_by}
-use Rattle.sorted_lists.specs.Ordered.{Ordered, values_at, spare_at}
+use Rattle.lists.specs.Ordered.{Ordered, values_at, spare_at}
 use Rattle.card_type.specs.declared.spot.Spot.{Spot}
 
 -- spots by uid, how many more can be inserted there without memory, and the copies of each id

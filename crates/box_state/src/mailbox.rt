@@ -1,7 +1,7 @@
 //! The mailbox.
 ghost use Rattle.std.specs.Prelude.{◌≡◌, ◌+◌, Some, None, Ok, map, find, option_map, IfSome, IfNone};
 ghost use Rattle.std.specs.Option.{option_copied};
-ghost use Rattle.mailbox_model.specs.Mailbox.{empty_mailbox, item_of, item_at, card_at, IsMailbox};
+ghost use Rattle.mailbox_model.specs.Mailbox.{empty_mailbox, item_of, item_at, card_at, weights, IsMailbox};
 ghost use Rattle.mailbox_model.specs.Present.{spot_of, spot, placed_by, effective_date, present};
 ghost use Rattle.mailbox_model.specs.Turns.{is_mail};
 ghost use Rattle.box_state.specs.Entries.{entry_with, IsEntryAt};
@@ -78,6 +78,13 @@ impl Mailbox {
         &self.me
     }
 
+    /// Every mailbox keeps the rules of one.
+    pub fn keeps_rules(&self)
+        ensures { IsMailbox self.now.mailbox }
+    {
+        self.me();
+    }
+
     /// The moment, in seconds since 1970-01-01 00:00:00 UTC. Takes no memory.
     pub fn now(&self) -> u64
         ensures { result ≡ self.now.mailbox.now }
@@ -97,6 +104,13 @@ impl Mailbox {
         ensures { result.now ≡ map item_of self.now.mailbox.entries }
     {
         self.items.as_slice()
+    }
+
+    /// What all cards weigh together, in bytes. Takes no memory.
+    pub fn weight(&self) -> u64
+        ensures { result ≡ weights self.now.mailbox.entries }
+    {
+        self.weight
     }
 
     /// The item with a uid: `None` exactly where there is none. Takes no memory, and time that grows with the logarithm of
@@ -133,8 +147,9 @@ impl Mailbox {
         self.spots.first(id)
     }
 
-    /// The spot of a uid, where its mail is present.
-    fn present_spot(&self, uid: u32) -> Option<&Spot>
+    /// The spot of the mail with a uid, where that is present: `None` exactly where it is not, or there is none. Takes no
+    /// memory and reads no card, and time that grows with the logarithm of the number of ids.
+    pub fn present_spot(&self, uid: u32) -> Option<&Spot>
         ensures spot { option_copied result ≡ option_map (λ t. spot t.placed) (find (is_mail uid) (present self.now.mailbox)) }
         ensures rules { IsMailbox self.now.mailbox }
     {

@@ -6,7 +6,7 @@ ghost use Rattle.box_state.specs.Spots.{spot_at, copies_at, copies_with, copies_
 
 use card_type::Spot;
 use kit::{Id, Memory};
-use sorted_lists::SortedById;
+use lists::SortedById;
 use std::alloc::Global;
 use std::collections::HashMap;
 use std::marker::Model;

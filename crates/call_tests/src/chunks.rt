@@ -1,7 +1,6 @@
 //! Values that come and go anywhere in a list of chunks.
 use crate::asserts::{assert_row, assert_same};
-use chunked_list::ChunkedList;
-use lists::Items;
+use lists::{ChunkedList, Items};
 use std::alloc::Global;
 use std::process::Abort;
 use std::test::Fail;

@@ -22,13 +22,18 @@ abbrev pub Read : Type 0 → Type 0
 Read X = Result (X × List ℕ) ℕ
 
 -- What a function answered, seen by view, and the rest that it left, is what reading gives, unless memory ran out.
-abbrev pub Fails : {Y : Type 0} → ReadFault → Read Y → Type 0
+abbrev pub Fails : {Y : Type 0} → ReadFault → Result Y ℕ → Type 0
 Fails faults.Memory read = Unit {0}
 Fails (faults.Malformed left) read = read ≡ Err left
 
 abbrev pub Moves : {X Y : Type 0} → (X → Y) → Result X ReadFault → Read Y → List ℕ → Type 0
 Moves view (Ok x) read rest = read ≡ Ok (view x, rest)
 Moves view (Err fault) read rest = Fails fault read
+
+-- what was answered, seen by view, is what reading bytes to their end gives
+abbrev pub Gives : {X Y : Type 0} → (X → Y) → Result X ReadFault → Result Y ℕ → Type 0
+Gives view (Ok x) read = read ≡ Ok (view x)
+Gives view (Err fault) read = Fails fault read
 
 -- ---- numbers and bytes
 

@@ -1,5 +1,7 @@
 //! The record of a card, read.
-ghost use Rattle.std.specs.Prelude.{◌≡◌};
+ghost use Rattle.std.specs.Prelude.{◌≡◌, ◌++◌, IfOk, IsTrue};
+ghost use Rattle.card_type.specs.Records.{record_of};
+ghost use Rattle.card_type.specs.Rules.{is_valid};
 ghost use Rattle.card_record.specs.Reading.{Moves};
 ghost use Rattle.card_record.specs.Cards.{envelope_at, requests_at, shown_at, later_at, fields_at, record_at, joined};
 
@@ -182,7 +184,9 @@ fn read_fields(alloc: Global, rest: &mut Rest<'_>) -> Result<Card, ReadFault>
 /// than a valid one, it is malformed at its own beginning.
 #[tactic(auto, unfolding(crate::specs::Cards::record_at))]
 pub fn read_record(alloc: Global, rest: &mut Rest<'_>) -> Result<Card, ReadFault>
-    ensures { Moves (λ x. x) result (record_at rest.old) rest.new }
+    ensures card { Moves (λ x. x) result (record_at rest.old) rest.new }
+    ensures spelled { IfOk result (λ card. rest.old ≡ record_of card ++ rest.new) }
+    ensures valid { IfOk result (λ card. IsTrue (is_valid card)) }
 {
     let left = rest.len();
     let card = read_fields(alloc, rest)?;

@@ -1,8 +1,9 @@
 //! The values of a record, read.
-ghost use Rattle.std.specs.Prelude.{◌≡◌, List, ℕ, IfOk};
+ghost use Rattle.std.specs.Prelude.{◌≡◌, ◌≤◌, List, ℕ, IfOk};
 ghost use Rattle.std.specs.Str.{is_utf8};
 ghost use Rattle.kit.specs.Addresses.{is_addr};
 ghost use Rattle.kit.specs.Ids.{is_id};
+ghost use Rattle.kit.specs.Moments.{last_moment};
 ghost use Rattle.kit.specs.Reading.{read_as};
 ghost use Rattle.card_type.specs.Groups.{is_group};
 ghost use Rattle.std.specs.Char.{is_ascii_uppercase};
@@ -134,7 +135,8 @@ pub fn read_text_within(
 /// Takes a moment, in seconds since 1970-01-01 00:00:00 UTC. Takes no memory.
 #[tactic(auto, unfolding(crate::specs::Reading::moment_at))]
 pub fn read_moment(rest: &mut Rest<'_>) -> Result<u64, ReadFault>
-    ensures { Moves (λ x. x) result (moment_at rest.old) rest.new }
+    ensures moment { Moves (λ x. x) result (moment_at rest.old) rest.new }
+    ensures late { IfOk result (λ x. x ≤ last_moment) }
 {
     let left = rest.len();
     let moment = rest.b64()?;

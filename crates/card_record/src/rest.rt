@@ -1,7 +1,8 @@
 //! Bytes that are read from the left.
 ghost use Rattle.std.specs.Prelude.{◌≡◌, ◌≤◌, List, ℕ, length, take, drop};
-ghost use Rattle.std.specs.Int.{w32, w64};
+ghost use Rattle.std.specs.Int.{w16, w32, w64};
 ghost use Rattle.card_record.specs.Reading.{Moves, byte_at, number_at, block_at};
+ghost use Rattle.card_record.specs.Spelling.{IsBytes};
 
 use crate::fault::ReadFault;
 use std::marker::Model;
@@ -17,6 +18,8 @@ impl<'a> Model for Rest<'a> {
     ghost Value = { List ℕ };
 
     ghost view = { λ rest. rest.bytes.now };
+
+    ghost invariant = { λ rest. IsBytes rest.bytes.now };
 }
 
 impl<'a> Rest<'a> {
@@ -29,7 +32,8 @@ impl<'a> Rest<'a> {
 
     /// The number of bytes that are left.
     pub fn len(&self) -> usize
-        ensures { result ≡ length self.now }
+        ensures value { result ≡ length self.now }
+        ensures bytes { IsBytes self.now }
     {
         self.bytes.len()
     }
@@ -54,6 +58,18 @@ impl<'a> Rest<'a> {
         }
         let front = self.front(1);
         Ok(front[0])
+    }
+
+    /// A number of two bytes, the highest first.
+    pub fn b16(&mut self) -> Result<u16, ReadFault>
+        ensures { Moves (λ n. n) result (number_at w16 self.old) self.new }
+    {
+        let left = self.bytes.len();
+        if left < 2 {
+            return Err(ReadFault::Malformed(left));
+        }
+        let front = self.front(2);
+        Ok(u16::from_be_bytes([front[0], front[1]]))
     }
 
     /// A number of four bytes, the highest first.

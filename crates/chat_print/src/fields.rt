@@ -7,7 +7,6 @@ ghost use Rattle.mailbox_model.specs.Printed.{field, short};
 use card_type::ChatKey;
 use kit::{Addr, Memory};
 use std::alloc::Global;
-use std::str;
 
 /// No more characters of the body of a row are printed in the list.
 const MAX_CHARS: usize = 60;
@@ -47,7 +46,7 @@ pub fn push_short(text: &mut String, body: &str) -> Result<(), Memory>
 pub fn push_addr(text: &mut String, addr: &Addr) -> Result<(), Memory>
     ensures { OnOk result (string_bytes text.new ≡ string_bytes text.old ++ field addr.now) }
 {
-    push_field(text, str::from_utf8(addr.bytes()).unwrap())
+    push_field(text, addr.as_str())
 }
 
 /// Appends the text of a key as a field.

@@ -11,7 +11,7 @@ use Rattle.std.proofs.Math.Seq.{set-append_seam}
 use Rattle.std.proofs.lemmas.Bool.{false≢true}
 use Rattle.std.proofs.lemmas.Cmp.{tied_itself}
 use Rattle.std.proofs.lemmas.List.Folds.{list_all_at}
-use Rattle.sorted_lists.proofs.Searches.{comparisons_rise, none_found}
+use Rattle.lists.proofs.Searches.{comparisons_rise, none_found}
 use Rattle.lists.proofs.OneMore.{none_among}
 
 -- ---- edits at the seam of two lists

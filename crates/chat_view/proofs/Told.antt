@@ -5,8 +5,8 @@ use Rattle.std.specs.Option.{option_and_then, option_map_or, option_or}
 use Rattle.std.proofs.lemmas.Bool.{false≢true}
 use Rattle.std.proofs.lemmas.List.{length-take-le, take_more}
 use Rattle.std.proofs.lemmas.List.Sums.{sum_by-cons}
-use Rattle.chunked_list.specs.Places.{joined}
-use Rattle.chunked_list.proofs.Steps.{joined_next}
+use Rattle.lists.specs.Chunks.{joined}
+use Rattle.lists.proofs.ChunkSteps.{joined_next}
 use Rattle.card_type.specs.declared.spot.Spot.{Spot}
 use Rattle.mailbox_model.specs.declared.row.Mark.{Mark}
 use Rattle.mailbox_model.specs.Lists.{Bytes, last_of}

@@ -13,9 +13,9 @@ ghost use Rattle.chat_view.specs.Standing.{IsMarkedFor, StandsFor, shown};
 
 use crate::state::{ChatState, fresh_with, fresh_without};
 use card_type::{Card, Spot};
-use chunked_list::ChunkedList;
 use group_roster::{put_in, take_out};
 use kit::{Addr, Memory};
+use lists::ChunkedList;
 use mailbox_model::Mark;
 use std::alloc::Global;
 

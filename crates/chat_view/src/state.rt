@@ -7,10 +7,9 @@ ghost use Rattle.chat_view.specs.Changes.{AreFew};
 ghost use Rattle.chat_view.specs.Standing.{StandsFor, last_date, shown};
 
 use card_type::{Card, ChatKey, Spot};
-use chunked_list::ChunkedList;
 use group_roster::{Setters, add_at, begin};
 use kit::{Addr, Memory, Text};
-use lists::Items;
+use lists::{ChunkedList, Items};
 use mailbox_model::{Mark, Roster};
 use std::alloc::Global;
 

@@ -85,9 +85,10 @@ fn save_at<H: Shelf>(
 fn other(place: Place) -> Place
     ensures { result ≡ other_place place }
 {
-    match place {
-        Place::A => Place::B,
-        Place::B | Place::T => Place::A,
+    if place == Place::A {
+        Place::B
+    } else {
+        Place::A
     }
 }
 
@@ -107,10 +108,7 @@ fn slots_by(next: Place, a: Front, b: Front) -> Slots
     ensures a { next ≡ A → (result.closed ≡ a.closed) × (result.other_closed ≡ b.closed) }
     ensures b { next ≡ B → (result.closed ≡ b.closed) × (result.other_closed ≡ a.closed) }
 {
-    let (here, there) = match next {
-        Place::B => (b, a),
-        Place::A | Place::T => (a, b),
-    };
+    let (here, there) = if next == Place::B { (b, a) } else { (a, b) };
     Slots {
         next,
         closed: here.closed,

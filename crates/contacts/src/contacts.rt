@@ -17,7 +17,6 @@ use kit::{Addr, Memory, Text};
 use mailbox_model::ContactRow;
 use std::alloc::Global;
 use std::marker::Model;
-use std::str;
 
 /// What is kept of the people of some cards, each at a spot: how often each address is mentioned, and under which names it
 /// wrote.
@@ -126,6 +125,6 @@ impl Contacts {
 fn text_of(alloc: Global, addr: &Addr) -> Result<Text, Memory>
     ensures { IfOk result (λ text. text ≡ addr.now) }
 {
-    let text = String::from_str(alloc, str::from_utf8(addr.bytes()).unwrap())?;
+    let text = String::from_str(alloc, addr.as_str())?;
     Ok(Text::from(text))
 }

@@ -8,7 +8,7 @@ ghost use Rattle.effects.specs.Named.{same_spot, put_once, without_spot};
 
 use card_type::Spot;
 use kit::Memory;
-use sorted_lists::SortedList;
+use lists::SortedList;
 use std::alloc::Global;
 use std::marker::Model;
 

@@ -247,6 +247,13 @@ impl Engine {
         }
     }
 
+    /// The mailbox of an engine keeps the rules of one.
+    pub fn keeps_rules(&self)
+        ensures { IsMailbox self.now.mailbox }
+    {
+        self.mailbox.keeps_rules();
+    }
+
     /// The mailbox. Takes no memory.
     pub fn mailbox(&self) -> &Mailbox
         ensures { result.now.mailbox ≡ self.now.mailbox }
@@ -284,8 +291,7 @@ fn prepare(stale: bool, mailbox: &mut Mailbox, change: &Change) -> Result<Turn, 
     ensures rules { IsMailbox mailbox.old.mailbox }
     ensures cause { MatchResult result (λ _. IsPrepared stale mailbox.old.mailbox change.now) (IsUnprepared stale mailbox.old.mailbox change.now) }
 {
-    // For its clause `rules`: the mailbox keeps the rules of one.
-    let _me = mailbox.me();
+    mailbox.keeps_rules();
     if stale {
         return Err(ApplyFault::Stale);
     }

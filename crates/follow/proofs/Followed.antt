@@ -17,14 +17,14 @@ use Rattle.state_store.specs.Commits.{Fill}
 use Rattle.state_store.specs.Stored.{IsStored, SameFound}
 use Rattle.state_store.proofs.Appending.{is_settled}
 use Rattle.keeper.specs.Keeping.{Keeping, is_refused}
-use Rattle.keeper.specs.Pending.{PendingChanges, none_pending, with_change}
+use Rattle.tail_journal.specs.Pending.{PendingChanges, none_pending, with_change}
 use Rattle.keeper.specs.Opening.{AllFindSame, IsOthers, load_of}
 use Rattle.touched_chats.specs.Costs.{change_cost}
 use Rattle.follower.specs.declared.fault.Input.{Input}
 use Rattle.follower.specs.declared.fault.Input.TheVariants.{Mbox, Steps}
 use Rattle.follower.specs.declared.fault.RunFault.{RunFault}
 use Rattle.follower.specs.declared.fault.RunFault.TheVariants as fault
-use Rattle.follower.specs.Committing.{AllStand, Ends, HaltsAt, MailsToCome, OnWay, Outset, Prefix, Stops, Way, committed, outset}
+use Rattle.follower.specs.Committing.{AllStand, Ends, HaltsAt, MailsToCome, OnWay, Prefix, Stops, Way, committed, outset}
 use Rattle.follower.specs.Feed.{Feed, after_fed, coming, fed_first, lines_left, mails_feed, mails_left, moment_fed}
 use Rattle.follower.specs.Following.{Following, IsFollowFault, lines_ahead, mails_ahead, to_come}
 use Rattle.follower.specs.Opening.{IsOpenFault, OnOtherMe, StartsLines, StartsMbox}

@@ -1,12 +1,11 @@
 -- The status, its code and its fault line.
-use Rattle.std.specs.Prelude.{ℕ, Bool, true, false, List, [], ◌++◌, codes, Result, Ok, Err}
+use Rattle.std.specs.Prelude.{ℕ, List, [], ◌++◌, codes, Result, Ok, Err}
 use Rattle.std.specs.Fmt.{decimal}
-use Rattle.outside.specs.declared.shelf.Place.{Place}
-use Rattle.outside.specs.declared.shelf.Place.TheVariants.{A, B, T}
+use Rattle.outside.specs.Places.{place_name}
 use Rattle.mailbox_model.specs.Lists.{Bytes}
 use Rattle.answers.specs.declared.fault.AnswerFault.{AnswerFault}
 use Rattle.answers.specs.declared.fault.AnswerFault.TheVariants as answer
-use Rattle.follower.specs.declared.fault.Input.TheVariants.{Mbox, Steps}
+use Rattle.follower.specs.Following.{input_name}
 use Rattle.follower.specs.declared.fault.RunFault.{RunFault}
 use Rattle.follower.specs.declared.fault.RunFault.TheVariants as fault
 use Rattle.trial.specs.declared.fault.TrialFault.{TrialFault}
@@ -59,37 +58,40 @@ refusal_of me (fault.Damaged place at) = refusal.Damaged place at
 refusal_of me (fault.OtherMe other) = refusal.OtherMe other me
 refusal_of me fault.Memory = refusal.Memory
 
--- the name of a place
-abbrev pub place_name : Place → List ℕ
-place_name A = codes "a"
-place_name B = codes "b"
-place_name T = codes "tail"
+-- what is said of a refusal
+abbrev pub said_of : Refusal → List ℕ
+said_of refusal.Usage = codes "usage: --me ADDR [--at N] list | chat KEY | contacts | updates ID [--info] | trial N"
+said_of (refusal.Read input) = codes "read fault: " ++ input_name input
+said_of (refusal.Steps line) = codes "steps line " ++ decimal line
+said_of refusal.Disk = codes "disk fault"
+said_of refusal.Write = codes "write fault"
+said_of refusal.Memory = codes "out of memory"
+said_of refusal.Full = codes "mailbox full"
+said_of refusal.NoChat = codes "no such chat"
+said_of (refusal.Damaged place at) = codes "damaged " ++ place_name place ++ codes " at " ++ decimal at
+said_of (refusal.Short input) = codes "short " ++ input_name input
+said_of (refusal.OtherMe kept me) = codes "other address " ++ kept ++ codes ", not " ++ me
+said_of (refusal.Endless input) = codes "endless " ++ input_name input
+said_of refusal.NoApp = codes "no such app"
 
--- whether the line of a refusal names neither a number nor an address
-abbrev pub is_fixed : Refusal → Bool
-is_fixed (refusal.Steps line) = false
-is_fixed (refusal.Damaged place at) = false
-is_fixed (refusal.OtherMe kept me) = false
-is_fixed _ = true
+abbrev pub line : List ℕ → List ℕ
+line said = codes "chats: " ++ said ++ codes "\n"
 
 -- The line that says why there is no answer. Where the answer could not be written, neither is a line.
 abbrev pub line_of : Refusal → List ℕ
-line_of refusal.Usage = codes "chats: usage: --me ADDR [--at N] list | chat KEY | contacts | updates ID [--info] | trial N\n"
-line_of (refusal.Read Mbox) = codes "chats: read fault: mbox\n"
-line_of (refusal.Read Steps) = codes "chats: read fault: steps\n"
-line_of (refusal.Steps line) = codes "chats: steps line " ++ decimal line ++ codes "\n"
-line_of refusal.Disk = codes "chats: disk fault\n"
 line_of refusal.Write = []
-line_of refusal.Memory = codes "chats: out of memory\n"
-line_of refusal.Full = codes "chats: mailbox full\n"
-line_of refusal.NoChat = codes "chats: no such chat\n"
-line_of (refusal.Damaged place at) = codes "chats: damaged " ++ place_name place ++ codes " at " ++ decimal at ++ codes "\n"
-line_of (refusal.Short Mbox) = codes "chats: short mbox\n"
-line_of (refusal.Short Steps) = codes "chats: short steps\n"
-line_of (refusal.OtherMe kept me) = codes "chats: other address " ++ kept ++ codes ", not " ++ me ++ codes "\n"
-line_of (refusal.Endless Mbox) = codes "chats: endless mbox\n"
-line_of (refusal.Endless Steps) = codes "chats: endless steps\n"
-line_of refusal.NoApp = codes "chats: no such app\n"
+line_of refusal.Usage = line (said_of refusal.Usage)
+line_of (refusal.Read input) = line (said_of (refusal.Read input))
+line_of (refusal.Steps n) = line (said_of (refusal.Steps n))
+line_of refusal.Disk = line (said_of refusal.Disk)
+line_of refusal.Memory = line (said_of refusal.Memory)
+line_of refusal.Full = line (said_of refusal.Full)
+line_of refusal.NoChat = line (said_of refusal.NoChat)
+line_of (refusal.Damaged place at) = line (said_of (refusal.Damaged place at))
+line_of (refusal.Short input) = line (said_of (refusal.Short input))
+line_of (refusal.OtherMe kept me) = line (said_of (refusal.OtherMe kept me))
+line_of (refusal.Endless input) = line (said_of (refusal.Endless input))
+line_of refusal.NoApp = line (said_of refusal.NoApp)
 
 abbrev pub answer_refusal : AnswerFault → Refusal
 answer_refusal answer.NoChat = refusal.NoChat

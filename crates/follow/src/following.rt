@@ -10,7 +10,7 @@ ghost use Rattle.state_store.specs.Commits.{fill_of};
 ghost use Rattle.state_store.specs.Stored.{IsStored, fill_in};
 ghost use Rattle.keeper.specs.Keeping.{IsKept};
 ghost use Rattle.keeper.specs.Opening.{load_of};
-ghost use Rattle.keeper.specs.Pending.{none_pending};
+ghost use Rattle.tail_journal.specs.Pending.{none_pending};
 ghost use Rattle.mboxrd.specs.Mails.{Mail};
 ghost use Rattle.mboxrd.specs.Reading as mbox_reading;
 ghost use Rattle.steps_file.specs.Reading as steps_reading;

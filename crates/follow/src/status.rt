@@ -1,6 +1,6 @@
 //! How a run ends, and why it may end without an answer.
-ghost use Rattle.std.specs.Prelude.{◌≡◌, IfOk, string_bytes};
-ghost use Rattle.follow.specs.Statuses.{answer_refusal, line_of, place_name, trial_refusal};
+ghost use Rattle.std.specs.Prelude.{◌≡◌};
+ghost use Rattle.follow.specs.Statuses.{answer_refusal, said_of, trial_refusal};
 ghost use Rattle.follow.specs.declared.status.Refusal.TheVariants as refusal;
 
 use answers::AnswerFault;
@@ -8,8 +8,8 @@ use follower::{Input, RunFault};
 use kit::{Addr, Memory};
 use outside::Place;
 use std::alloc::Global;
-use std::str;
-use thiserror::Error;
+use std::error::Error;
+use std::fmt;
 use trial::TrialFault;
 
 /// How a run ends.
@@ -72,48 +72,66 @@ impl Status {
 }
 
 /// Why a run ends without an answer.
-#[derive(Debug, PartialEq, Eq, Error, Drop)]
+#[derive(Debug, PartialEq, Eq, Drop)]
 pub enum Refusal {
     /// The words are not those of a command.
-    #[error("usage: --me ADDR [--at N] list | chat KEY | contacts | updates ID [--info] | trial N")]
     Usage,
     /// The input failed.
-    #[error("read fault: {0}")]
     Read(Input),
     /// The line of the steps file with this number, from 1, is no step, or takes the next mail where there is none.
-    #[error("steps line {0}")]
     Steps(u64),
     /// The shelf failed.
-    #[error("disk fault")]
     Disk,
     /// The sink failed.
-    #[error("write fault")]
     Write,
     /// Memory ran out.
-    #[error("out of memory")]
     Memory,
     /// The mailbox has no place for an arrival, or 2^62 changes were made.
-    #[error("mailbox full")]
     Full,
     /// No chat in the list has the key.
-    #[error("no such chat")]
     NoChat,
     /// What is kept in this place is damaged at this offset.
-    #[error("a state file is damaged at {1}")]
     Damaged(Place, u64),
     /// The input ends before the place up to which it was followed.
-    #[error("short {0}")]
     Short(Input),
     /// What is kept is the mailbox of the first address, and not of the second.
-    #[error("the state files keep the mailbox of another address")]
     OtherMe(Addr, Addr),
     /// As many bytes of the input were taken as may be, and one more was needed.
-    #[error("endless {0}")]
     Endless(Input),
     /// No app is shown that has the id.
-    #[error("no such app")]
     NoApp,
 }
+
+/// The line that says that memory ran out, which takes none.
+pub(crate) const OUT_OF_MEMORY: &str = "chats: out of memory\n";
+
+impl fmt::Display for Refusal {
+    ghost use Rattle.std.specs.Prelude.{Some};
+
+    ghost output = { λ refusal. Some (said_of refusal) };
+
+    fn fmt<W: fmt::Write>(&self, f: &mut fmt::Formatter<W>) -> fmt::Result {
+        match self {
+            Refusal::Usage => f.write_str(
+                "usage: --me ADDR [--at N] list | chat KEY | contacts | updates ID [--info] | trial N",
+            ),
+            Refusal::Read(input) => write!(f, "read fault: {input}"),
+            Refusal::Steps(line) => write!(f, "steps line {line}"),
+            Refusal::Disk => f.write_str("disk fault"),
+            Refusal::Write => f.write_str("write fault"),
+            Refusal::Memory => f.write_str("out of memory"),
+            Refusal::Full => f.write_str("mailbox full"),
+            Refusal::NoChat => f.write_str("no such chat"),
+            Refusal::Damaged(place, at) => write!(f, "damaged {place} at {at}"),
+            Refusal::Short(input) => write!(f, "short {input}"),
+            Refusal::OtherMe(kept, me) => write!(f, "other address {kept}, not {me}"),
+            Refusal::Endless(input) => write!(f, "endless {input}"),
+            Refusal::NoApp => f.write_str("no such app"),
+        }
+    }
+}
+
+impl Error for Refusal {}
 
 impl From<Memory> for Refusal {
     ghost from_gives = { λ _ why. why ≡ refusal.Memory };
@@ -148,39 +166,9 @@ impl From<TrialFault> for Refusal {
     }
 }
 
-/// The name of a place: that of its file, after `box.`.
-fn place_name(place: Place) -> &'static str
-    ensures { result.now ≡ place_name place }
-{
-    match place {
-        Place::A => "a",
-        Place::B => "b",
-        Place::T => "tail",
-    }
-}
-
-/// The text of an address.
-fn addr_text(addr: &Addr) -> &str
-    ensures { result.now ≡ addr.now }
-{
-    str::from_utf8(addr.bytes()).unwrap()
-}
-
-/// The line that says of which address the kept state is. Takes memory; `Err` only when it runs out.
-fn other_line(alloc: Global, kept: &Addr, me: &Addr) -> Result<String, Memory>
-    ensures { IfOk result (λ line. string_bytes line ≡ line_of (refusal.OtherMe kept.now me.now)) }
-{
-    let mut line = String::from_str(alloc, "chats: other address ")?;
-    line.push_str(addr_text(kept))?;
-    line.push_str(", not ")?;
-    line.push_str(addr_text(me))?;
-    line.push('\n')?;
-    Ok(line)
-}
-
 impl Refusal {
-    ghost use Rattle.std.specs.Prelude.{◌≡◌, ◌≢◌, IfOk, string_bytes, true};
-    ghost use Rattle.follow.specs.Statuses.{is_fixed, line_of, refusal_of, status_of};
+    ghost use Rattle.std.specs.Prelude.{◌≡◌, IfOk, string_bytes};
+    ghost use Rattle.follow.specs.Statuses.{line_of, refusal_of, status_of};
 
     /// Why a run ends of which the files were not followed, for this own address.
     pub(crate) fn of_fault(fault: RunFault, me: Addr) -> Refusal
@@ -220,43 +208,13 @@ impl Refusal {
         }
     }
 
-    /// The line that says so, where it names no number and no address.
-    pub(crate) fn fixed_line(&self) -> &'static str
-        requires { is_fixed self.now ≡ true }
-        ensures { result.now ≡ line_of self.now }
-    {
-        match self {
-            Refusal::Usage =>
-                "chats: usage: --me ADDR [--at N] list | chat KEY | contacts | updates ID [--info] | trial N\n",
-            Refusal::Read(Input::Mbox) => "chats: read fault: mbox\n",
-            Refusal::Read(Input::Steps) => "chats: read fault: steps\n",
-            Refusal::Disk => "chats: disk fault\n",
-            Refusal::Write => "",
-            Refusal::Memory => "chats: out of memory\n",
-            Refusal::Full => "chats: mailbox full\n",
-            Refusal::NoChat => "chats: no such chat\n",
-            Refusal::Short(Input::Mbox) => "chats: short mbox\n",
-            Refusal::Short(Input::Steps) => "chats: short steps\n",
-            Refusal::Endless(Input::Mbox) => "chats: endless mbox\n",
-            Refusal::Endless(Input::Steps) => "chats: endless steps\n",
-            Refusal::NoApp => "chats: no such app\n",
-            Refusal::Steps(_) | Refusal::Damaged(..) | Refusal::OtherMe(..) => unreachable!(),
-        }
-    }
-
-    /// The line that says so, ended by LF. Takes memory; `Err` only when it runs out.
+    /// The line that says so, ended by LF, and nothing where the sink failed. Takes memory; `Err` only when it runs out.
     pub fn line(&self, alloc: Global) -> Result<String, Memory>
         ensures { IfOk result (λ line. string_bytes line ≡ line_of self.now) }
     {
         match self {
-            Refusal::Steps(line) => Ok(format!(in alloc; "chats: steps line {}\n", line)?),
-            Refusal::Damaged(place, at) => Ok(format!(in alloc;
-                "chats: damaged {} at {}\n",
-                place_name(*place),
-                at
-            )?),
-            Refusal::OtherMe(kept, me) => other_line(alloc, kept, me),
-            _ => Ok(String::from_str(alloc, self.fixed_line())?),
+            Refusal::Write => Ok(String::new(alloc)),
+            _ => Ok(format!(in alloc; "chats: {self}\n")?),
         }
     }
 }

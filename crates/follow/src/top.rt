@@ -15,7 +15,7 @@ ghost use Rattle.follow.specs.Words.{request};
 ghost use Rattle.follow.specs.declared.status.Refusal.TheVariants as refusal;
 
 use crate::following::follow_files;
-use crate::status::{Refusal, Status};
+use crate::status::{OUT_OF_MEMORY, Refusal, Status};
 use crate::words::{Command, Request};
 use answers::{Question, print_answer};
 use kit::{Addr, Memory, Steps, Text};
@@ -137,7 +137,7 @@ fn refuse<K: Sink>(alloc: Global, why: &Refusal, out: &mut K) -> Status
             why.status()
         }
         Err(Memory) => {
-            let _ = out.put(Refusal::Memory.fixed_line().as_bytes());
+            let _ = out.put(OUT_OF_MEMORY.as_bytes());
             Status::Memory
         }
     }

@@ -14,7 +14,7 @@ use Rattle.state_store.specs.Commits.{OldOrNew, commit_reads, commit_writes, fil
 use Rattle.state_store.specs.Stored.{IsStored}
 use Rattle.state_store.proofs.Appending.{is_settled}
 use Rattle.keeper.specs.Keeping.{Keeping, is_refused}
-use Rattle.keeper.specs.Pending.{PendingChanges, none_pending}
+use Rattle.tail_journal.specs.Pending.{PendingChanges, none_pending}
 use Rattle.touched_chats.specs.Costs.{change_cost}
 use Rattle.follower.specs.Feed.{Fed, Feed, after_fed, ends, End}
 use Rattle.follower.specs.Going.{AreMade, MakesFirst, after_feds, fed_all}

@@ -15,7 +15,7 @@ use Rattle.state_store.specs.Stored.{IsStored}
 use Rattle.state_store.specs.declared.store.Store.{Store}
 use Rattle.state_store.proofs.Appending.{is_settled}
 use Rattle.keeper.specs.Keeping.{Keeping, is_refused}
-use Rattle.keeper.specs.Pending.{none_pending, with_change}
+use Rattle.tail_journal.specs.Pending.{none_pending, with_change}
 use Rattle.follower.specs.declared.fault.RunFault.{RunFault}
 use Rattle.follower.specs.declared.fault.RunFault.TheVariants as fault
 use Rattle.follower.specs.declared.follower.Turned.{Turned}

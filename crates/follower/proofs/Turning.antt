@@ -30,7 +30,7 @@ use Rattle.arrivals.proofs.Uids.{next_uid_after}
 use Rattle.state_store.specs.States.{State}
 use Rattle.touched_chats.specs.Costs.{change_cost}
 use Rattle.keeper.specs.Keeping.{Keeping, after_change, is_refused}
-use Rattle.keeper.specs.Pending.{with_change}
+use Rattle.tail_journal.specs.Pending.{with_change}
 use Rattle.keeper.specs.declared.fault.KeepFault.{KeepFault}
 use Rattle.keeper.specs.declared.fault.KeepFault.TheVariants as of_keeper
 use Rattle.follower.specs.Feed.{Fed, Feed, after_fed, at_line, at_mail, counted, fed_first, line_fed, lines_fed, mail_fed, mails_fed}

@@ -1,5 +1,5 @@
 -- A follower as contracts see it: where it stands in its files, and what its turns make of them.
-use Rattle.std.specs.Prelude.{◌≡◌, ◌≤◌, ◌<◌, ℕ, ◌+◌, Bool, List, [], ◌∷◌, ◌++◌, Option, Some, None, option_map, Result, Ok, Err, ⊤}
+use Rattle.std.specs.Prelude.{◌≡◌, ◌≤◌, ◌<◌, ℕ, ◌+◌, Bool, List, [], ◌∷◌, ◌++◌, Option, Some, None, option_map, Result, Ok, Err, ⊤, codes}
 use Rattle.kit.specs.Moments.{last_moment}
 use Rattle.mboxrd.specs.Mails.{Mail, mails_from}
 use Rattle.mboxrd.specs.declared.fault.BoxFault.{BoxFault}
@@ -16,6 +16,7 @@ use Rattle.mailbox_model.specs.declared.change.Change.TheVariants.{Expunge, Seen
 use Rattle.mailbox_model.specs.Lists.{Bytes}
 use Rattle.mailbox_model.specs.Mailbox.{Mailbox, after}
 use Rattle.touched_chats.specs.Costs.{change_cost}
+use Rattle.follower.specs.declared.fault.Input.{Input}
 use Rattle.follower.specs.declared.fault.Input.TheVariants.{Mbox, Steps}
 use Rattle.follower.specs.declared.fault.RunFault.{RunFault}
 use Rattle.follower.specs.declared.fault.RunFault.TheVariants as fault
@@ -30,6 +31,11 @@ use Rattle.arrivals.specs.Arrivals.{arrival_of}
 use Rattle.follower.specs.Feed.{Feed, at_mail, coming, last_fed}
 use Rattle.follower.specs.Going.{MakesFirst, StopsAt}
 use Rattle.follower.specs.Spending.{next_cost}
+
+-- the name of an input
+abbrev pub input_name : Input → List ℕ
+input_name Mbox = codes "mbox"
+input_name Steps = codes "steps"
 
 -- the mailbox with its kept state, the two readers of its files, and whether a call has failed
 pub record Following : Type 0 where

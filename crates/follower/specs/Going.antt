@@ -4,7 +4,7 @@ use Rattle.follower.specs.declared.fault.RunFault.{RunFault}
 use Rattle.follower.specs.declared.fault.RunFault.TheVariants as fault
 use Rattle.state_store.specs.States.{State}
 use Rattle.keeper.specs.Keeping.{Keeping, is_refused}
-use Rattle.keeper.specs.Pending.{with_change}
+use Rattle.tail_journal.specs.Pending.{with_change}
 use Rattle.follower.specs.Feed.{Fed, Feed, BadLine, after_fed, ends, fed_first}
 
 -- ---- one change

@@ -8,17 +8,30 @@ use kit::{Addr, Memory};
 use mboxrd::BoxFault;
 use outside::Place;
 use source_buffer::BufferFault;
+use std::fmt;
 use thiserror::Error;
 
 /// An input of a run.
-#[derive(Clone, Copy, Debug, PartialEq, Eq, Hash, Error)]
+#[derive(Clone, Copy, Debug, PartialEq, Eq, Hash)]
 pub enum Input {
     /// The mbox.
-    #[error("mbox")]
     Mbox,
     /// The steps file.
-    #[error("steps")]
     Steps,
+}
+
+impl fmt::Display for Input {
+    ghost use Rattle.std.specs.Prelude.{Some};
+    ghost use Rattle.follower.specs.Following.{input_name};
+
+    ghost output = { λ input. Some (input_name input) };
+
+    fn fmt<W: fmt::Write>(&self, f: &mut fmt::Formatter<W>) -> fmt::Result {
+        f.write_str(match self {
+            Input::Mbox => "mbox",
+            Input::Steps => "steps",
+        })
+    }
 }
 
 /// Why the files were not followed to their end.
@@ -43,10 +56,10 @@ pub enum RunFault {
     #[error("disk fault")]
     Disk,
     /// What is kept in this place is damaged at this offset.
-    #[error("a state file is damaged at {1}")]
+    #[error("damaged {0} at {1}")]
     Damaged(Place, u64),
     /// What is kept is the mailbox of this other address.
-    #[error("the state files keep the mailbox of another address")]
+    #[error("other address {0}")]
     OtherMe(Addr),
     /// Memory ran out.
     #[error("out of memory")]

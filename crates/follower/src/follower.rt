@@ -17,7 +17,7 @@ ghost use Rattle.touched_chats.specs.Costs.{change_cost};
 ghost use Rattle.state_store.specs.States.{IsWithin};
 ghost use Rattle.keeper.specs.Keeping.{IsKept, is_refused};
 ghost use Rattle.keeper.specs.Opening.{AllFindSame, load_of};
-ghost use Rattle.keeper.specs.Pending.{none_pending, with_change};
+ghost use Rattle.tail_journal.specs.Pending.{none_pending, with_change};
 ghost use Rattle.follower.specs.Feed.{after_fed, moment_fed};
 ghost use Rattle.follower.specs.Following.{Adds, ArrivesNext, IsCause, IsKeepFault, IsTurnFault, LacksMail, Makes, MakesMoment, ReadsForOne, TurnAdds, TurnCosts, TurnGoes, to_come, mails_ahead};
 ghost use Rattle.follower.specs.Opening.{OnOtherMe, Opens, StartsLines, StartsMbox};

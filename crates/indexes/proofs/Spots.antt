@@ -2,7 +2,7 @@
 use Rattle.std.proofs.Common.{◌≡◌, refl, sym, ap, ◌∙◌, subst, ℕ, zero, suc, ◌+◌, ◌<◌, ◌≤◌, Bool, true, false, ◌||◌, cond, Option, Some, None, is_some, List, [], ◌∷◌, map, length, take, get_or, arith}
 use Rattle.std.specs.Prelude.{◌==◌, find, option_map}
 use Rattle.std.specs.BTreeSet.{BTreeSet, contains, IsOrdered}
-use Rattle.std.specs.List.{AllByRecursion, count_by, list_any, slice_get}
+use Rattle.std.specs.List.{AllByRecursion, list_any, slice_get}
 use Rattle.std.specs.List.Sorted.{IsStrictlySortedBy}
 use Rattle.std.specs.Option.{option_map_or}
 use Rattle.std.specs.Ordering.{eq_by_cmp}
@@ -11,7 +11,6 @@ use Rattle.std.proofs.lemmas.Bool.{eqb-true}
 use Rattle.std.proofs.lemmas.Cmp.{eq_by_cmp_equiv}
 use Rattle.std.proofs.lemmas.List.{take_all, take_more, length-map}
 use Rattle.std.proofs.lemmas.List.Folds.{list_any-append}
-use Rattle.std.proofs.lemmas.List.Sums.{sum_by_more, sum_by-take-le}
 use Rattle.std.proofs.lemmas.Map.Lookups.{btree_set_from_contains}
 use Rattle.std.proofs.lemmas.Option.{slice_get-map, slice_get-get_or, slice_get_within, get_or_from_slice_get}
 use Rattle.kit.specs.Options.{◌>>=◌}
@@ -20,11 +19,10 @@ use Rattle.card_type.specs.declared.spot.Spot.{Spot}
 use Rattle.card_type.specs.Spots.{spot_cmp}
 use Rattle.card_type.proofs.Orders.{spots_total, spots_exact}
 use Rattle.mailbox_model.specs.declared.item.Item.{Item}
-use Rattle.mailbox_model.specs.Mailbox.{Mailbox, Entry, IsMailbox, entry_at, has_uid, item_at, item_of}
-use Rattle.mailbox_model.specs.Present.{Placed, Mail, mail_at, mail_cmp, mail_of, spot, present}
+use Rattle.mailbox_model.specs.Mailbox.{Mailbox, Entry, IsMailbox, entry_at, has_uid, item_of}
+use Rattle.mailbox_model.specs.Present.{Placed, Mail, mail_cmp, mail_of, spot, present}
 use Rattle.mailbox_model.proofs.PresentLaws.{present_sorted}
 use Rattle.mailbox_model.proofs.UidLaws.{each_found}
-use Rattle.indexes.specs.Costs.{kept_cards}
 use Rattle.indexes.specs.Kept.{present_at}
 use Rattle.indexes.proofs.Mails.{IsPresent, each_present, one_of}
 use Rattle.indexes.proofs.PresentAt.{found_any, list_any-map, own_spot}
@@ -72,27 +70,6 @@ module _ (m : Mailbox) (rules : IsMailbox m) (i : ℕ) {item : Item} (is : IsNex
 
   same_uid : is.entry.uid ≡ item.uid
   same_uid = ap (λ x. x.uid) is.is
-
-  pub item_there : item_at m item.uid ≡ Some item
-  item_there = ap (item_at m) (sym same_uid) ∙ ap (option_map item_of) found ∙ ap Some is.is
-
-  -- a card is read exactly where the entry has one
-  module _ (before so_far now : ℕ) (counted : so_far ≡ before + count_by has_card (take i m.entries))
-      (read : now ≡ so_far + cond (is_some (mail_at m item.uid)) 1 0) where
-    pub counts : now ≡ before + count_by has_card (take (i + 1) m.entries)
-    counts =
-        let one : Entry → ℕ = λ e. cond (has_card e) 1 0 in
-        let more : count_by has_card (take (i + 1) m.entries) ≡ count_by has_card (take i m.entries) + cond (is_some (mail_at m item.uid)) 1 0 =
-        sum_by_more one m.entries i is.entry (slice_get_within m.entries i is.entry is.at)
-        ∙ ap (λ n. count_by has_card (take i m.entries) + n)
-        (ap one (get_or_from_slice_get m.entries i is.entry is.entry is.at)
-        ∙ ap (λ o. cond (is_some o) 1 0) (sym (ap (λ o. o >>= mail_of) found) ∙ ap (mail_at m) same_uid)) in
-        omega (arith, more, counted, read)
-
-    pub within : now ≤ before + kept_cards m
-    within =
-        let fits = sum_by-take-le (λ e. cond (has_card e) 1 0) m.entries (i + 1) in
-        omega (arith, fits, counts)
 
   one_more : (q : Spot) → list_any (has_spot m q) (take (i + 1) m.entries)
       ≡ (list_any (has_spot m q) (take i m.entries) || (option_map_or (ties q) (option_map spot (present_at m item.uid)) false || false))

@@ -39,7 +39,7 @@ impl Indexes {
         ensures kept { IfOk result (AreKept mailbox.now.mailbox) }
         ensures cost { steps.new ≤ steps.old + load mailbox.now.mailbox }
     {
-        let spots = present_spots(alloc, mailbox, steps)?;
+        let spots = present_spots(alloc, mailbox)?;
         let mut indexes = Indexes::new(alloc);
         indexes.add_cards(alloc, mailbox, &spots, steps)?;
         indexes.add_rows(alloc, mailbox, &spots, steps)?;
@@ -86,8 +86,7 @@ impl Indexes {
         ensures rest { OnOk result (self.new ≡ record self.old { chats = self.new.chats; timers = self.new.timers }) }
         ensures cost { steps.new ≤ steps.old + (length (contents mailbox.now.mailbox) + pairs mailbox.now.mailbox (contents mailbox.now.mailbox)) }
     {
-        // For its clause `rules`: the mailbox keeps the rules of one.
-        let _me = mailbox.me();
+        mailbox.keeps_rules();
         for spot in spots {
             if let Some(key) = self.links.chat_of(&spot.id) {
                 let key = key.copy()?;

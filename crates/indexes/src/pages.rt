@@ -23,11 +23,10 @@ use crate::rows::row_at;
 use box_state::{Held, Item, Mailbox};
 use card_type::{ChatKey, KeyMap, Spot};
 use chat_view::{ChatState, chat_row, page_name};
-use chunked_list::ChunkedList;
 use contacts::Contacts;
 use effects::Effects;
 use kit::{Id, Memory, Steps, Text};
-use lists::Items;
+use lists::{ChunkedList, Items};
 use mailbox_model::{ChatPage, ContactRow, FaultRow, ListPage, ListRow, Roster, Row, UpdateRow};
 use std::alloc::Global;
 use std::sync::ledger::Ledger;
@@ -99,8 +98,7 @@ impl Indexes {
         ensures row { IfOk result (λ row. row ≡ list_row mailbox.now.mailbox key.now) }
         ensures cost { steps.new ≤ steps.old + chat_cost mailbox.now.mailbox key.now }
     {
-        // By the clause `rules` of `me` the mailbox keeps the rules.
-        let _ = mailbox.me();
+        mailbox.keeps_rules();
         let state = self.chats.get(key).unwrap();
         let last = last_row(alloc, mailbox, &self.effects, &state.last, steps)?;
         chat_row(alloc, state, last.as_ref(), contact_of(&self.contacts, key))
@@ -118,8 +116,7 @@ impl Indexes {
         ensures page { IfOk result (λ found. found ≡ page mailbox.now.mailbox key.now) }
         ensures cost { steps.new ≤ steps.old + page_cost mailbox.now.mailbox key.now }
     {
-        // By the clause `rules` of `me` the mailbox keeps the rules.
-        let _ = mailbox.me();
+        mailbox.keeps_rules();
         match self.chats.get(key) {
             None => Ok(None),
             Some(state) => {
@@ -153,8 +150,7 @@ impl Indexes {
         if self.links.chat_of(id).is_none() {
             return Ok(None);
         }
-        // By the clause `rules` of `me` the mailbox keeps the rules.
-        let _ = mailbox.me();
+        mailbox.keeps_rules();
         let spot = mailbox.spot_of(id).unwrap();
         Ok(updates_of(row_at(alloc, mailbox, &self.effects, spot, steps)?))
     }

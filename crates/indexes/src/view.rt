@@ -71,6 +71,13 @@ impl<'a> View<'a> {
         self.mailbox.me()
     }
 
+    /// The mailbox that is seen keeps the rules of one.
+    pub fn keeps_rules(&self)
+        ensures { IsMailbox self.now }
+    {
+        self.me();
+    }
+
     /// The moment, in seconds since 1970-01-01 00:00:00 UTC. Takes no memory.
     pub fn now(&self) -> u64
         ensures { result ≡ self.now.now }

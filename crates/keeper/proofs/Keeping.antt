@@ -1,7 +1,5 @@
 -- What is pending, and how it goes on from what is kept.
-use Rattle.std.proofs.Common.{◌≡◌, ℕ, ◌+◌, ◌<◌, ◌≤◌, ◌^◌, List, [], ◌∷◌, ◌++◌, length, flat_map, false, Option, Ok, refl, sym, ◌∙◌, ap, subst, arith, rules, length-append}
-use Rattle.std.specs.List.{AllByRecursion}
-use Rattle.std.proofs.lemmas.Grind.{common_steps}
+use Rattle.std.proofs.Common.{◌≡◌, ℕ, ◌+◌, ◌<◌, ◌≤◌, ◌^◌, List, [], ◌∷◌, ◌++◌, length, flat_map, false, Option, Ok, refl, sym, ◌∙◌, ap, subst, arith, rules}
 use Rattle.outside.specs.Places.{Places}
 use Rattle.outside.specs.Moments.{WhereKnown, KnownThen}
 use Rattle.mailbox_model.specs.declared.change.Change.{Change}
@@ -13,14 +11,11 @@ use Rattle.tail_journal.specs.Spelling.{AreSpelled, IsBatch}
 use Rattle.state_store.specs.States.{State, IsWithin}
 use Rattle.state_store.specs.Stands.{stands}
 use Rattle.state_store.specs.Commits.{Commits, MakeBatch, batch_to}
-use Rattle.keeper.specs.Pending.{PendingChanges, ArePending, AreWritten, none_pending, with_change}
+use Rattle.tail_journal.specs.Pending.{PendingChanges, ArePending, AreWritten, none_pending, with_change}
+use Rattle.tail_journal.proofs.Waiting.{pending_more}
 use Rattle.keeper.specs.Keeping.{Keeping, IsKept, after_change}
 
 -- ---- one change more
-
-all_more : {X : Type 0} (P : X → Type 0) (xs : List X) (x : X) → AllByRecursion P xs → P x → AllByRecursion P (xs ++ x ∷ [])
-all_more P [] x all one = (one, tt)
-all_more P (y ∷ ys) x all one = (all.0, all_more P ys x all.1 one)
 
 pub after_more : (m : Mailbox) (held : List Change) (change : Change) → after_all m (held ++ change ∷ []) ≡ after (after_all m held) change
 after_more m [] change = refl
@@ -29,25 +24,6 @@ after_more m (x ∷ xs) change = after_more (after m x) xs change
 allowed_more : (m : Mailbox) (held : List Change) (change : Change) → AreAllowed m held → IsValidChange change → full (after_all m held) change ≡ false → AreAllowed m (held ++ change ∷ [])
 allowed_more m [] change allowed valid room = (valid, room, tt)
 allowed_more m (x ∷ xs) change allowed valid room = (allowed.0, allowed.1, allowed_more (after m x) xs change allowed.2 valid room)
-
-pub pending_more : (p : PendingChanges) (held : List Change) (change : Change) → ArePending p held → FitsChange change → ArePending (with_change p change) (held ++ change ∷ [])
-pending_more p held change are fits = record {
-  spelled = record {
-    length_is = length-append held (change ∷ []) ∙ ap (λ (n : ℕ). n + 1) are.spelled.length_is;
-    text = ap (λ (bytes : List ℕ). bytes ++ change_spelled change) are.spelled.text ∙ sym (spelled_more held);
-  };
-  fits = all_more FitsChange held change are.fits fits;
-}
-  where
-    spelled_more : (xs : List Change) → flat_map change_spelled (xs ++ change ∷ []) ≡ flat_map change_spelled xs ++ change_spelled change
-    spelled_more xs = grind (arith, common_steps)
-
-pub written_more : (p : PendingChanges) (change : Change) → AreWritten p → FitsChange change → p.count < 256 → AreWritten (with_change p change)
-written_more p change written fits few = record {
-  held = written.held ++ change ∷ [];
-  are = pending_more p written.held change written.are fits;
-  few = omega (arith, few);
-}
 
 -- ---- what is kept
 

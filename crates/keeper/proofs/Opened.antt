@@ -16,7 +16,7 @@ use Rattle.keeper.specs.declared.fault.KeepFault.{KeepFault}
 use Rattle.keeper.specs.declared.fault.KeepFault.TheVariants as fault
 use Rattle.keeper.specs.Keeping.{Keeping, IsKept}
 use Rattle.keeper.specs.Opening.{AllFindSame, IsNotOwn, IsOpenCause, OnOtherMe, state_fault}
-use Rattle.keeper.specs.Pending.{none_pending}
+use Rattle.tail_journal.specs.Pending.{none_pending}
 use Rattle.keeper.proofs.Keeping.{kept_alone}
 
 pub on_other : {T : Type 0} (r : Result T KeepFault) (P : Type 0) → P → OnOtherMe r P

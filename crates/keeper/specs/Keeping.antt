@@ -7,7 +7,7 @@ use Rattle.state_image.specs.declared.position.Position.{Position}
 use Rattle.state_store.specs.States.{State, max_changes}
 use Rattle.state_store.specs.Stands.{stands}
 use Rattle.state_store.specs.declared.store.Store.{Store}
-use Rattle.keeper.specs.Pending.{PendingChanges, ArePending}
+use Rattle.tail_journal.specs.Pending.{PendingChanges, ArePending}
 
 -- the state after all changes, those of them that are not lasting yet, what is known of the shelf, and whether the engine is stale
 pub record Keeping : Type 0 where

@@ -1,4 +1,3 @@
 -- What public clauses cite.
-pub mod Pending
 pub mod Keeping
 pub mod Opening

@@ -11,13 +11,13 @@ use thiserror::Error;
 #[derive(Debug, PartialEq, Eq, Error, Drop)]
 pub enum KeepFault {
     /// The shelf failed at one of the calls that were made of it.
-    #[error("the state files could not be read or written")]
+    #[error("disk fault")]
     Disk,
     /// What is kept in this place is damaged at this offset.
-    #[error("a state file is damaged at {1}")]
+    #[error("damaged {0} at {1}")]
     Damaged(Place, u64),
     /// What is kept is the mailbox of this other address.
-    #[error("the state files keep the mailbox of another address")]
+    #[error("other address {0}")]
     OtherMe(Addr),
     /// The mailbox has no place for an arrival, or 2^62 changes were made.
     #[error("mailbox full")]

@@ -8,12 +8,11 @@ ghost use Rattle.mailbox_model.specs.Mailbox.{after, full, IsValidChange};
 ghost use Rattle.touched_chats.specs.Costs.{change_cost};
 ghost use Rattle.keeper.specs.Keeping.{IsKept, after_change, is_refused};
 ghost use Rattle.keeper.specs.Opening.{AllFindSame, OnOtherMe, Opens};
-ghost use Rattle.keeper.specs.Pending.{none_pending, with_change};
+ghost use Rattle.tail_journal.specs.Pending.{none_pending, with_change};
 ghost use Rattle.keeper.specs.declared.fault.KeepFault.TheVariants as fault;
 
 use crate::fault::KeepFault;
 use crate::opening::own_mailbox;
-use crate::pending::Pending;
 use engine::{ApplyFault, Engine};
 use kit::{Addr, Steps};
 use mailbox_model::Change;
@@ -23,6 +22,7 @@ use state_store::{Opened, Store};
 use std::alloc::Global;
 use std::marker::Model;
 use std::sync::ledger::Ledger;
+use tail_journal::Pending;
 
 /// A mailbox with its kept state: changes are made in an engine, and wait until a commit makes them lasting. After a call
 /// that failed it may only be dropped.
@@ -240,15 +240,14 @@ impl Keeper {
         ensures few { self.old.pending.count ≤ 256 }
         ensures undamaged { IfErr result (λ why. (why ≡ fault.Disk) ⊎ (why ≡ fault.Memory)) }
     {
-        let n = self.pending.count();
-        if n == 0 {
+        if self.pending.count() == 0 {
             return Ok(());
         }
         has_offsets(self.position);
         let mailbox = self.engine.mailbox();
-        let changes = self.pending.bytes();
-        self.store.commit(self.alloc, shelf, mailbox, self.position, n, changes, steps)?;
-        self.pending.clear();
+        let pending = &mut self.pending;
+        self.store
+            .commit(self.alloc, shelf, mailbox, self.position, pending, steps)?;
         Ok(())
     }
 }

@@ -4,7 +4,6 @@
 mod fault;
 mod keeper;
 mod opening;
-mod pending;
 
 pub use fault::KeepFault;
 pub use keeper::Keeper;

@@ -10,6 +10,7 @@ use crate::letters::lower;
 use crate::memory::Memory;
 use std::alloc::Global;
 use std::marker::Model;
+use std::{fmt, str};
 
 /// No address is shorter: a byte on either side of the `@`.
 const MIN_LEN: usize = 3;
@@ -98,10 +99,27 @@ impl Addr {
         self.bytes.bytes()
     }
 
+    /// The address as a `str`. Takes no memory.
+    pub fn as_str(&self) -> &str
+        ensures { result.now ≡ self.now }
+    {
+        str::from_utf8(self.bytes()).unwrap()
+    }
+
     /// A copy of the address, which shares its bytes. Takes no memory; `Err` only where no more copies can be counted.
     pub fn copy(&self) -> Result<Self, Memory>
         ensures { IfOk result (λ copy. copy ≡ self.now) }
     {
         Ok(self.clone()?)
+    }
+}
+
+impl fmt::Display for Addr {
+    ghost use Rattle.std.specs.Prelude.{Some};
+
+    ghost output = { λ addr. Some addr };
+
+    fn fmt<W: fmt::Write>(&self, f: &mut fmt::Formatter<W>) -> fmt::Result {
+        f.write_str(self.as_str())
     }
 }

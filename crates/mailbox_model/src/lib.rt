@@ -6,6 +6,7 @@ mod change;
 mod contact;
 mod item;
 mod laws;
+mod limits;
 mod links;
 mod list;
 mod page;
@@ -23,6 +24,7 @@ pub use laws::{
     equal_mailboxes_print_alike, items_and_cards_make_entries, list_has_each_chat,
     present_is_in_order, uids_name_one_mail,
 };
+pub use limits::{MAX_MAILS, MAX_TOTAL_WEIGHT};
 pub use links::{Cites, Moved};
 pub use list::{FaultRow, ListPage, ListRow};
 pub use page::ChatPage;

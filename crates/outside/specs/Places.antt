@@ -1,5 +1,5 @@
 -- The contents of the three places of a shelf.
-use Rattle.std.specs.Prelude.{◌≡◌, ℕ, List}
+use Rattle.std.specs.Prelude.{◌≡◌, ℕ, List, codes}
 use Rattle.outside.specs.declared.shelf.Place.{Place}
 use Rattle.outside.specs.declared.shelf.Place.TheVariants.{A, B, T}
 
@@ -7,6 +7,12 @@ pub record Places : Type 0 where
   pub a : List ℕ
   pub b : List ℕ
   pub t : List ℕ
+
+-- the name of a place
+abbrev pub place_name : Place → List ℕ
+place_name A = codes "a"
+place_name B = codes "b"
+place_name T = codes "tail"
 
 -- the content of one of them
 abbrev pub content : Places → Place → List ℕ

@@ -4,10 +4,11 @@ ghost use Rattle.std.specs.declared.option.Option.{Option};
 ghost use Rattle.std.specs.Io.{ReadsAtMost};
 ghost use Rattle.outside.specs.declared.shelf.Place.{Place};
 ghost use Rattle.outside.specs.Causes.{HasCause};
-ghost use Rattle.outside.specs.Places.{Places, content, Changes, OthersStay};
+ghost use Rattle.outside.specs.Places.{Places, content, place_name, Changes, OthersStay};
 ghost use Rattle.outside.specs.Crash.{Holds, Torn, PartlyCut, IfKnown, Follows, WasOutcome, SameOutcomes, OnlyAt, Elapses, RisesUpTo};
 
 use crate::Failed;
+use std::fmt;
 
 /// One of the three files of a shelf.
 #[derive(Clone, Copy, Debug, PartialEq, Eq, Hash)]
@@ -18,6 +19,20 @@ pub enum Place {
     B,
     /// The tail.
     T,
+}
+
+impl fmt::Display for Place {
+    ghost use Rattle.std.specs.Prelude.{Some};
+
+    ghost output = { λ place. Some (place_name place) };
+
+    fn fmt<W: fmt::Write>(&self, f: &mut fmt::Formatter<W>) -> fmt::Result {
+        f.write_str(match self {
+            Place::A => "a",
+            Place::B => "b",
+            Place::T => "tail",
+        })
+    }
 }
 
 /// Three files that outlive a run. No call takes memory, and each answers `Failed` only at a fault of

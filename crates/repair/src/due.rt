@@ -33,8 +33,7 @@ pub(crate) fn drain<L: Ledger>(
         ≡ (if uid_falls_due mailbox.now.mailbox now uid then None else deadline_at timers.old uid)) }
     ensures cost { ReadsDue mailbox.now.mailbox now steps.old steps.new }
 {
-    // For its clause `rules`: the mailbox keeps the rules of one.
-    let _me = mailbox.me();
+    mailbox.keeps_rules();
     while let Some(uid) = timers.due(now) {
         let card = mailbox.card(uid, steps).unwrap();
         note(&card.id, ids)?;

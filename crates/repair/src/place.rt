@@ -27,8 +27,7 @@ pub(crate) fn place_before<'a>(
     requires { key ≡ chat mailbox.now.mailbox id.now }
     ensures { IsPlace mailbox.now.mailbox id.now result }
 {
-    // For its clause `rules`: the mailbox keeps the rules of one.
-    let _me = mailbox.me();
+    mailbox.keeps_rules();
     let chat = key?;
     let spot = mailbox.spot_of(id).unwrap();
     Some(Place { chat, spot })
@@ -44,8 +43,7 @@ pub(crate) fn place_after<'a>(
     requires links { links.now.cites ≡ cites view.now }
     ensures { IfOk result (IsPlace view.now id.now) }
 {
-    // For its clause `rules`: the mailbox keeps the rules of one.
-    let _me = view.me();
+    view.keeps_rules();
     let Some(chat) = links.chat_of(id) else {
         return Ok(None);
     };

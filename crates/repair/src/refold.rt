@@ -6,7 +6,7 @@ ghost use Rattle.card_type.specs.declared.key.ChatKey.{ChatKey};
 ghost use Rattle.card_type.specs.Keys.{key_eq};
 ghost use Rattle.mailbox_model.specs.Chats.{chat_mails};
 ghost use Rattle.mailbox_model.specs.Mailbox.{card_at};
-ghost use Rattle.chunked_list.specs.Places.{joined};
+ghost use Rattle.lists.specs.Chunks.{joined};
 ghost use Rattle.group_roster.specs.Setters.{At, RestsOn};
 ghost use Rattle.chat_view.specs.declared.state.ChatState.{ChatState};
 ghost use Rattle.chat_states.specs.States.{AreStatesOf, has_key};
@@ -99,8 +99,7 @@ fn refold<L: Ledger>(
     ensures others { OnOk result ((other : ChatKey) → key_eq key.now other ≡ false → map_of.get chats.new other ≡ map_of.get chats.old other) }
     ensures cost { steps.new ≤ steps.old + length (chat_mails view.now key.now) }
 {
-    // For its clause `rules`: the mailbox keeps the rules of one.
-    let _me = view.me();
+    view.keeps_rules();
     let (roster, setters) = fold_roster(alloc, view, key, spots_of(chats, key), steps)?;
     settle(chats, key, roster, setters)
 }

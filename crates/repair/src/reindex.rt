@@ -40,8 +40,7 @@ fn leave<L: Ledger>(
     ensures rest { OnOk result (indexes.new ≡ record indexes.old { links = indexes.new.links; effects = indexes.new.effects; contacts = indexes.new.contacts }) }
     ensures cost { steps.new ≤ steps.old + 1 }
 {
-    // For its clause `rules`: the mailbox keeps the rules of one.
-    let _me = mailbox.me();
+    mailbox.keeps_rules();
     let card = mailbox.card(at.uid, steps).unwrap();
     let moved = indexes.remove_card(alloc, at, card)?;
     moves.note(moved)

@@ -55,8 +55,7 @@ fn show<'a, L: Ledger>(
     ensures timers { OnOk result ((uid : ℕ) → deadline_at timers.new uid ≡ (if spot.now.uid == uid then deadline_among view.now (present view.now) uid else deadline_at timers.old uid)) }
     ensures cost { steps.new ≤ steps.old + (1 + times_named view.now spot.now.id) }
 {
-    // For its clause `rules`: the mailbox keeps the rules of one.
-    let _me = view.me();
+    view.keeps_rules();
     let card = view.card(spot.uid, steps).unwrap();
     let shown = shown_at(alloc, view, effects, spot, card, steps)?;
     renew_deadline(timers, spot.uid, shown.deadline)?;
@@ -201,9 +200,8 @@ pub(crate) fn settle<L: Ledger>(
     ensures rest { OnOk result (indexes.new ≡ record indexes.old { chats = indexes.new.chats; timers = indexes.new.timers }) }
     ensures cost { steps.new ≤ steps.old + settle_reads mailbox.now.mailbox view.now id.now }
 {
-    // For their clause `rules`: both mailboxes keep the rules of one.
-    let _me = mailbox.me();
-    let _me_after = view.me();
+    mailbox.keeps_rules();
+    view.keeps_rules();
     let before = place_before(mailbox, before, id);
     let after = place_after(view, &indexes.links, id)?;
     noted.note(&before)?;

@@ -69,9 +69,8 @@ pub(crate) fn turned_cards<'a, L: Ledger>(
     ensures cards { AreTurned mailbox.now.mailbox view.now turn.now result }
     ensures cost { steps.new ≤ steps.old + 4 }
 {
-    // For their clauses `rules`: both mailboxes keep the rules of one.
-    let _before = mailbox.me();
-    let _after = view.me();
+    mailbox.keeps_rules();
+    view.keeps_rules();
     let (first, second) = uids_of(turn);
     TurnedCards {
         first: card_of(mailbox, view, first, steps),

@@ -17,7 +17,6 @@ use Rattle.card_type.specs.declared.card.Card.{Card}
 use Rattle.mailbox_model.specs.declared.change.Fault.{Fault}
 use Rattle.mailbox_model.specs.declared.change.Fault.TheVariants.{NoFields, NoFrom, CardTooLong, TooLong}
 use Rattle.mailbox_model.specs.Mailbox.{Mailbox, Entry, max_entries, max_total_weight, end_of_uids, weight_read, weights, RiseBelow, IsEntry, IsMailbox}
-use Rattle.box_state.specs.Kept.{Kept}
 use Rattle.card_record.specs.Reading.{◌>>=◌, Read, number_at, opt_of, times_of}
 use Rattle.card_record.specs.Cards.{record_at}
 use Rattle.card_record.specs.Spelling.{IsBytes}
@@ -500,15 +499,3 @@ pub image_once : (m n : Mailbox) (p q : Position) → HasImage m p → HasImage 
 image_once m n p q a b same =
     let both = both_are (m, p) (n, q) (sym (image_again m p a) ∙ (ap image_of same ∙ image_again n q b)) in
     (ap (λ (x : Mailbox × Position). x.0) both, ap (λ (x : Mailbox × Position). x.1) both)
-
--- ---- what is answered
-
-pub spelled_back : (r : Result (Kept × Position) ImageFault) (h : Head) (es : List Entry) (bytes : List ℕ) → bytes ≡ image (mailbox_by h es) h.position
-    → IfOk r (λ x. x.0.mailbox ≡ mailbox_by h es) → IfOk r (λ x. x.1 ≡ h.position) → IfOk r (λ x. bytes ≡ image x.0.mailbox x.1)
-spelled_back (Err fault) h es bytes is m p = tt
-spelled_back (Ok x) h es bytes is m p =
-    is ∙ ap (λ (n : Mailbox). image n h.position) (sym m) ∙ ap (λ (q : Position). image x.0.mailbox q) (sym p)
-
-pub position_back : (r : Result (Kept × Position) ImageFault) (h : Head) → IsPosition h.position → IfOk r (λ x. x.1 ≡ h.position) → IfOk r (λ x. IsPosition x.1)
-position_back (Err fault) h k p = tt
-position_back (Ok x) h k p = subst IsPosition (sym p) k

@@ -17,7 +17,6 @@ use Rattle.state_image.specs.declared.fault.ImageFault.{ImageFault}
 use Rattle.state_image.specs.declared.fault.ImageFault.TheVariants as faults
 use Rattle.state_image.specs.declared.position.Position.{Position}
 use Rattle.state_image.specs.declared.read.Head.{Head}
-use Rattle.state_image.specs.declared.entries.Entry as read
 use Rattle.state_image.specs.Faults.{code_of, fault_of}
 use Rattle.state_image.specs.Changes.{or_malformed}
 
@@ -122,6 +121,10 @@ last_uid entries = fold (λ _ entry. entry.uid) 0 entries
 abbrev pub entry_at : ℕ → ℕ → List Entry → List ℕ → Read Entry
 entry_at now next front bytes = entry_after now next (last_uid front) (weights front) bytes
 
+-- the mail that follows those of a mailbox
+abbrev pub entry_next : Mailbox → List ℕ → Read Entry
+entry_next m bytes = entry_at m.now m.next_uid m.entries bytes
+
 abbrev pub item_count_at : List ℕ → Read ℕ
 item_count_at bytes = ruled (λ n. nat_le n max_entries) (number_at w32) bytes
 
@@ -139,6 +142,10 @@ body_at bytes = do
 
 abbrev pub mailbox_by : Head → List Entry → Mailbox
 mailbox_by head entries = record { me = head.me; now = head.moment; next_uid = head.next_uid; entries = entries }
+
+-- what an image of a mailbox and a position has before the items
+abbrev pub head_of : Mailbox → Position → Head
+head_of m p = record { me = m.me; position = p; moment = m.now; next_uid = m.next_uid }
 
 -- a reading of the last bytes among so many, by the offset of the first field that is malformed
 abbrev pub from_body : ℕ → Read (Head × List Entry) → Result (Mailbox × Position) ImageFault
@@ -170,10 +177,6 @@ abbrev pub cards_in : Mailbox → ℕ
 cards_in m = sum_by cards_of (map item_of m.entries)
 
 -- ---- what private functions cite
-
--- an entry of the code
-abbrev pub entry_in : read.Entry → Entry
-entry_in e = record { uid = e.uid; arrival = e.arrival; seen = e.seen; read = e.read }
 
 -- an item as it is written, with its card
 abbrev pub held_spelled : Held → Option Card → List ℕ

@@ -12,8 +12,9 @@ use kit::Memory;
 use mailbox_model::{Change, Fault};
 use std::alloc::Global;
 
-/// Appends the spelling of a change.
-fn push_change(change: &Change, out: &mut Vec<u8>) -> Result<(), Memory>
+/// Appends the spelling of a change to bytes, in place. Takes memory; `Err` only when it runs out, and then nothing is
+/// promised of the bytes.
+pub fn append_change(change: &Change, out: &mut Vec<u8>) -> Result<(), Memory>
     ensures { OnOk result (out.new.items ≡ out.old.items ++ change_spelled change.now) }
 {
     match change {
@@ -50,7 +51,7 @@ pub fn write_change(change: &Change, out: &mut Vec<u8>) -> Result<(), Memory>
 {
     // Written apart, so that no part of it stays where memory runs out.
     let mut spelled = Vec::new(*out.allocator());
-    push_change(change, &mut spelled)?;
+    append_change(change, &mut spelled)?;
     out.extend_from_slice(&spelled)?;
     Ok(())
 }
@@ -65,9 +66,10 @@ fn read_fault(rest: &mut Rest<'_>) -> Result<Fault, ReadFault>
     fault_of(code).ok_or(ReadFault::Malformed(left))
 }
 
-/// The change that is at the front.
+/// Takes a change. `Malformed` exactly where a field is short or breaks its rule, with the number of bytes that were left
+/// where the first such field begins. Takes memory for a card.
 #[tactic(auto, unfolding(crate::specs::Changes::change_at))]
-fn next_change(alloc: Global, rest: &mut Rest<'_>) -> Result<Change, ReadFault>
+pub fn take_change(alloc: Global, rest: &mut Rest<'_>) -> Result<Change, ReadFault>
     ensures { Moves (λ x. x) result (change_at rest.old) rest.new }
 {
     let left = rest.len();
@@ -90,7 +92,7 @@ pub fn read_change(alloc: Global, bytes: &[u8], at: usize) -> Result<(Change, us
     ensures spelled { IfOk result (λ read. IsSpelledAt bytes.now at (change_spelled read.0) read.1) }
 {
     let mut rest = rest_from(bytes, at);
-    match next_change(alloc, &mut rest) {
+    match take_change(alloc, &mut rest) {
         Ok(change) => Ok((change, bytes.len().saturating_sub(rest.len()))),
         Err(fault) => Err(fault_in(bytes.len(), fault)),
     }

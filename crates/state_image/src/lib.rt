@@ -11,7 +11,7 @@ mod position;
 mod read;
 mod write;
 
-pub use change::{read_change, write_change};
+pub use change::{append_change, read_change, take_change, write_change};
 pub use fault::ImageFault;
 pub use laws::{each_change_has_one_spelling, each_mailbox_has_one_image};
 pub use position::{MAX_COUNT, Position};

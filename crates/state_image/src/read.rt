@@ -1,19 +1,16 @@
 //! Images, read.
-ghost use Rattle.std.specs.Prelude.{◌≡◌, IfErr, IfOk};
+ghost use Rattle.std.specs.Prelude.{◌≡◌, ◌≤◌, [], IfOk};
 ghost use Rattle.mailbox_model.specs.Mailbox.{IsMailbox};
-ghost use Rattle.box_state.specs.Kept.{AreBeside, entries_of, mailbox_of};
 ghost use Rattle.box_state.specs.declared.ready.Ready.TheVariants.{Unready};
 ghost use Rattle.card_record.specs.Reading.{Moves};
-ghost use Rattle.state_image.specs.declared.fault.ImageFault.TheVariants.{Memory as out_of_memory};
-ghost use Rattle.state_image.specs.Images.{image, image_of, count_at, lines_at, position_at, next_uid_at, head_at, body_at, mailbox_by, GivesImage, IsPosition};
+ghost use Rattle.state_image.specs.Images.{image, image_of, count_at, lines_at, position_at, next_uid_at, head_at, head_of, body_at, mailbox_by, GivesImage, IsPosition};
 
 use crate::entries::read_entries;
 use crate::fault::ImageFault;
 use crate::offset::{fault_in, rest_from};
 use crate::position::{MAX_COUNT, Position};
-use box_state::{Item, Mailbox};
+use box_state::Mailbox;
 use card_record::{Field, ReadFault, Rest, read_moment};
-use card_type::Card;
 use kit::Addr;
 use std::alloc::Global;
 
@@ -72,7 +69,8 @@ fn read_position(rest: &mut Rest<'_>) -> Result<Position, ReadFault>
 
 /// Takes the next uid.
 fn read_next_uid(rest: &mut Rest<'_>) -> Result<u32, ReadFault>
-    ensures { Moves (λ n. n) result (next_uid_at rest.old) rest.new }
+    ensures uid { Moves (λ n. n) result (next_uid_at rest.old) rest.new }
+    ensures some { IfOk result (λ n. 1 ≤ n) }
 {
     let left = rest.len();
     let next_uid = rest.b32()?;
@@ -85,7 +83,8 @@ fn read_next_uid(rest: &mut Rest<'_>) -> Result<u32, ReadFault>
 /// Takes all before the items.
 #[tactic(auto, unfolding(crate::specs::Images::head_at))]
 fn read_head(alloc: Global, rest: &mut Rest<'_>) -> Result<Head, ReadFault>
-    ensures { Moves (λ head. head) result (head_at rest.old) rest.new }
+    ensures head { Moves (λ head. head) result (head_at rest.old) rest.new }
+    ensures rules { IfOk result (λ head. IsMailbox (mailbox_by head [])) }
 {
     let me = <Addr as Field>::read(alloc, rest)?;
     let position = read_position(rest)?;
@@ -101,38 +100,22 @@ fn read_head(alloc: Global, rest: &mut Rest<'_>) -> Result<Head, ReadFault>
 
 /// Takes all after the name.
 #[tactic(auto, unfolding(crate::specs::Images::body_at))]
-fn read_body(
-    alloc: Global,
-    rest: &mut Rest<'_>,
-) -> Result<(Head, Vec<(Item, Option<Card>)>), ReadFault>
-    ensures body { Moves (λ body. (body.0, entries_of body.1.items)) result (body_at rest.old) rest.new }
-    ensures beside { IfOk result (λ body. AreBeside body.1.items) }
+fn read_body(alloc: Global, rest: &mut Rest<'_>) -> Result<(Mailbox, Position), ReadFault>
+    ensures body { Moves (λ read. (head_of read.0.mailbox read.1, read.0.mailbox.entries)) result (body_at rest.old) rest.new }
+    ensures ready { IfOk result (λ read. read.0.ready ≡ Unready) }
 {
-    let head = read_head(alloc, rest)?;
-    let items = read_entries(alloc, head.moment, head.next_uid, rest)?;
+    let Head {
+        me,
+        position,
+        moment,
+        next_uid,
+    } = read_head(alloc, rest)?;
+    let mut mailbox = Mailbox::without_mails(alloc, me, moment, next_uid);
+    read_entries(alloc, &mut mailbox, rest)?;
     if rest.len() > 0 {
         return Err(ReadFault::Malformed(rest.len()));
     }
-    Ok((head, items))
-}
-
-/// The mailbox and the position that were read.
-fn restored(
-    alloc: Global,
-    head: Head,
-    items: Vec<(Item, Option<Card>)>,
-) -> Result<(Mailbox, Position), ImageFault>
-    requires beside { AreBeside items.items }
-    requires rules { IsMailbox (mailbox_by head (entries_of items.items)) }
-    ensures mailbox { IfOk result (λ read. read.0.mailbox ≡ mailbox_by head (entries_of items.items)) }
-    ensures ready { IfOk result (λ read. read.0.ready ≡ Unready) }
-    ensures position { IfOk result (λ read. read.1 ≡ head.position) }
-    ensures memory { IfErr result (λ fault. fault ≡ out_of_memory) }
-{
-    match Mailbox::restore(alloc, head.me, head.moment, head.next_uid, items) {
-        Ok(mailbox) => Ok((mailbox, head.position)),
-        Err(_) => Err(ImageFault::Memory),
-    }
+    Ok((mailbox, position))
 }
 
 /// The mailbox and the position whose image the bytes are. `Version` exactly where they do not begin with the name of an
@@ -149,7 +132,7 @@ pub fn read_image(alloc: Global, bytes: &[u8]) -> Result<(Mailbox, Position), Im
     }
     let mut rest = rest_from(bytes, NAME.len());
     match read_body(alloc, &mut rest) {
-        Ok((head, items)) => restored(alloc, head, items),
+        Ok(read) => Ok(read),
         Err(fault) => Err(fault_in(bytes.len(), fault)),
     }
 }

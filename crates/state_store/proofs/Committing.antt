@@ -1,5 +1,5 @@
 -- From changes in their written form to the state after them.
-use Rattle.std.proofs.Common.{◌≡◌, ℕ, ◌-◌, ◌<◌, ◌≤◌, List, length, Option, None, Some, Result, Ok, Err, OnOk, refl, sym, ◌∙◌, ap, subst, arith}
+use Rattle.std.proofs.Common.{◌≡◌, ℕ, ◌-◌, ◌<◌, ◌≤◌, List, length, Option, None, Some, refl, sym, ◌∙◌, ap, subst, arith}
 use Rattle.outside.specs.declared.shelf.Place.{Place}
 use Rattle.outside.specs.Places.{Places}
 use Rattle.mailbox_model.specs.declared.change.Change.{Change}
@@ -58,8 +58,3 @@ module _ (me : Bytes) (new : State) (n : ℕ) (changes : List ℕ) (places : Pla
     above = above (chosen_of places) refl;
     read = λ count r number all. omega (arith, read_up count r number all);
   }
-
--- what comes of an Ok
-pub on_ok_as : {X E : Type 0} (r : Result X E) (P Q : Type 0) → (P → Q) → OnOk r P → OnOk r Q
-on_ok_as (Ok x) P Q f p = f p
-on_ok_as (Err why) P Q f p = tt

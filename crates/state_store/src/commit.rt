@@ -5,6 +5,7 @@ ghost use Rattle.outside.specs.Crash.{RisesUpTo};
 ghost use Rattle.outside.specs.Moments.{LeavesOnly, Reached, WhereKnown, KnownThen};
 ghost use Rattle.mailbox_model.specs.Lists.{Bytes};
 ghost use Rattle.state_image.specs.Images.{image, image_of, cards_in};
+ghost use Rattle.tail_journal.specs.Pending.{none_pending};
 ghost use Rattle.tail_journal.specs.Tails.{IsGroup};
 ghost use Rattle.state_store.specs.States.{State};
 ghost use Rattle.state_store.specs.Stands.{stands};
@@ -20,7 +21,7 @@ use outside::{DiskFault, Shelf, StateFault};
 use state_image::{Position, each_mailbox_has_one_image, write_image};
 use std::alloc::Global;
 use std::sync::ledger::Ledger;
-use tail_journal::write_group;
+use tail_journal::Pending;
 
 /// Appends a group that leads from the state that stands to another.
 pub fn append<H: Shelf>(store: &mut Store, shelf: &mut H, group: &[u8]) -> Result<(), DiskFault>
@@ -69,35 +70,31 @@ pub fn checkpoint<H: Shelf>(
     Ok(())
 }
 
-/// Appends n changes that are spelled so, after which this is the position.
-pub fn append_changes<H: Shelf>(
+/// Appends the pending changes, after which this is the position. None is pending then.
+pub fn append_pending<H: Shelf>(
     store: &mut Store,
-    alloc: Global,
     shelf: &mut H,
     position: Position,
-    n: u16,
-    changes: &[u8],
-) -> Result<(), StateFault>
+    pending: &mut Pending,
+) -> Result<(), DiskFault>
     requires stored { WhereKnown (H.seen shelf.old) (IsStored store.old (H.may_leave shelf.old)) }
-    requires batch { MakeBatch position n changes.now }
-    requires leads { WhereKnown (H.seen shelf.old) (λ places. (me : Bytes) × (new : State) × (new.position ≡ position) × Commits me new n changes.now places) }
+    requires batch { MakeBatch position pending.old.count pending.old.bytes }
+    requires leads { WhereKnown (H.seen shelf.old) (λ places. (me : Bytes) × (new : State) × (new.position ≡ position) × Commits me new pending.old.count pending.old.bytes places) }
     requires chosen { store.old.chosen ≡ true }
-    requires small { store.old.tail.size + (39 + length changes.now) ≤ 2 ^ 62 }
-    ensures any_moment { WhereKnown (H.seen shelf.old) (λ places. (me : Bytes) (new : State) → new.position ≡ position → Commits me new n changes.now places
+    requires small { store.old.tail.size + (39 + length pending.old.bytes) ≤ 2 ^ 62 }
+    ensures any_moment { WhereKnown (H.seen shelf.old) (λ places. (me : Bytes) (new : State) → new.position ≡ position → Commits me new pending.old.count pending.old.bytes places
         → LeavesOnly H.moment H.left_since shelf.old shelf.new (Reached (H.may_leave shelf.old) (OldOrNew me new))) }
     ensures lasting { OnOk result (KnownThen (H.seen shelf.old) (H.seen shelf.new) (λ places after.
-        (me : Bytes) (new : State) → new.position ≡ position → Commits me new n changes.now places → stands me after ≡ Ok new)) }
+        (me : Bytes) (new : State) → new.position ≡ position → Commits me new pending.old.count pending.old.bytes places → stands me after ≡ Ok new)) }
     ensures stored { OnOk result (WhereKnown (H.seen shelf.new) (IsStored store.new (H.may_leave shelf.new))) }
-    ensures fill { OnOk result (fill_of store.new ≡ record { chosen = true; tail = store.old.tail.size + (39 + length changes.now) }) }
-    ensures untouched { IsErrOf result StateFault.Memory → shelf.new ≡ shelf.old }
-    ensures written { RisesUpTo (40 + length changes.now) (H.written shelf.old) (H.written shelf.new) }
-    ensures later { H.faults shelf.old ≤ H.faults shelf.new }
-    ensures cause { IsErrOf result StateFault.Disk → Rose (H.faults shelf.old) (H.faults shelf.new) }
-    ensures undamaged { IfErr result (λ why. (why ≡ fault.Disk) ⊎ (why ≡ fault.Memory)) }
+    ensures fill { OnOk result (fill_of store.new ≡ record { chosen = true; tail = store.old.tail.size + (39 + length pending.old.bytes) }) }
+    ensures none { pending.new ≡ none_pending }
+    ensures written { RisesUpTo (40 + length pending.old.bytes) (H.written shelf.old) (H.written shelf.new) }
+    ensures cause { HasCause (H.faults shelf.old) (H.faults shelf.new) result }
 {
-    let base = position.count - u64::from(n);
-    let group = write_group(alloc, base, position, n, changes)?;
+    let group = pending.seal(position);
     append(store, shelf, &group)?;
+    pending.reuse(group);
     Ok(())
 }
 

@@ -1,11 +1,12 @@
 //! Two slots and a tail.
-ghost use Rattle.std.specs.Prelude.{◌≡◌, ◌⊎◌, ◌≤◌, ◌+◌, true, false, length, map, Ok, IfOk, OnOk, IfErr, IfSome, IsErrOf};
+ghost use Rattle.std.specs.Prelude.{◌≡◌, ◌≢◌, ◌⊎◌, ◌≤◌, ◌+◌, true, false, length, map, Ok, IfOk, OnOk, IfErr, IfSome, IsErrOf};
 ghost use Rattle.outside.specs.Causes.{Rose};
 ghost use Rattle.outside.specs.Crash.{RisesUpTo};
 ghost use Rattle.outside.specs.Moments.{LeavesOnly, Reached, WhereKnown, KnownThen};
 ghost use Rattle.outside.specs.declared.faults.StateFault.TheVariants as fault;
+ghost use Rattle.tail_journal.specs.Pending.{none_pending};
 
-use crate::commit::{append_changes, save_state};
+use crate::commit::{append_pending, save_state};
 use crate::opening::{Contents, find};
 use crate::restoring::restore;
 use box_state::Mailbox;
@@ -15,7 +16,7 @@ use outside::{Shelf, StateFault};
 use state_image::Position;
 use std::alloc::Global;
 use std::sync::ledger::Ledger;
-use tail_journal::{GROUP_HEAD, Tail};
+use tail_journal::{GROUP_HEAD, Pending, Tail};
 
 /// The most bytes that the tail may have.
 const MAX_TAIL: u64 = 8_388_608;
@@ -84,19 +85,19 @@ impl Store {
         })
     }
 
-    /// Whether these changes are saved with an image, and not appended as a group: no slot is chosen, or the tail
-    /// would have more than 8,388,608 bytes with them.
-    fn is_due(&self, changes: &[u8]) -> bool
-        ensures { result ≡ falls_due (fill_of self.now) (39 + length changes.now) }
+    /// Whether so many bytes of changes are saved with an image, and not appended as a group: no slot is chosen, or the
+    /// tail would have more than 8,388,608 bytes with them.
+    fn is_due(&self, changes: usize) -> bool
+        ensures { result ≡ falls_due (fill_of self.now) (39 + changes) }
     {
-        let group = (GROUP_HEAD + changes.len()) as u64;
+        let group = (GROUP_HEAD as u64).saturating_add(changes as u64);
         !self.chosen || MAX_TAIL < self.tail.size().saturating_add(group)
     }
 
-    /// Makes changes lasting: n of them, from 1 to 256 and spelled so, which lead from the state that stands to this mailbox
-    /// and position. They are appended to the tail; where a checkpoint falls due, an image of the mailbox is saved in their
-    /// place, and the tail is cleared. Takes its memory before it writes: `Memory` leaves the shelf as it was. After any `Err`
-    /// the shelf is to be opened again.
+    /// Makes the pending changes, of which there is one at least, lasting: they lead from the state that stands to this
+    /// mailbox and position. They are appended to the tail; where a checkpoint falls due, an image of the mailbox is saved in
+    /// their place, and the tail is cleared. None is pending then. Only a checkpoint takes memory, before it writes: `Memory`
+    /// leaves the shelf as it was. After any `Err` the shelf is to be opened again.
     ///
     /// `Disk` comes only at a fault of the shelf.
     ///
@@ -105,40 +106,43 @@ impl Store {
     /// - `fill`: after Ok the tail has the group too, or after a checkpoint nothing.
     /// - `written`: no more is written than 40 bytes beside the changes, or where a checkpoint falls due 18 beside the image.
     /// - `reads`: an image reads each kept card once, and a group none.
-    #[expect(clippy::too_many_arguments)]
     pub fn commit<H: Shelf, L: Ledger>(
         &mut self,
         alloc: Global,
         shelf: &mut H,
         mailbox: &Mailbox,
         position: Position,
-        n: u16,
-        changes: &[u8],
+        pending: &mut Pending,
         steps: &mut Steps<L>,
     ) -> Result<(), StateFault>
         requires stored { WhereKnown (H.seen shelf.old) (IsStored self.old (H.may_leave shelf.old)) }
-        requires batch { MakeBatch position n changes.now }
+        requires batch { MakeBatch position pending.old.count pending.old.bytes }
         requires leads { WhereKnown (H.seen shelf.old)
-            (Commits mailbox.now.mailbox.me (record { mailbox = mailbox.now.mailbox; position = position }) n changes.now) }
+            (Commits mailbox.now.mailbox.me (record { mailbox = mailbox.now.mailbox; position = position }) pending.old.count pending.old.bytes) }
         ensures any_moment { WhereKnown (H.seen shelf.old) (λ _. LeavesOnly H.moment H.left_since shelf.old shelf.new
             (Reached (H.may_leave shelf.old) (OldOrNew mailbox.now.mailbox.me (record { mailbox = mailbox.now.mailbox; position = position })))) }
         ensures lasting { OnOk result (KnownThen (H.seen shelf.old) (H.seen shelf.new) (λ _ after.
             stands mailbox.now.mailbox.me after ≡ Ok (record { mailbox = mailbox.now.mailbox; position = position }))) }
         ensures stored { OnOk result (WhereKnown (H.seen shelf.new) (IsStored self.new (H.may_leave shelf.new))) }
-        ensures fill { OnOk result (fill_of self.new ≡ fill_with (fill_of self.old) (39 + length changes.now)) }
+        ensures fill { OnOk result (fill_of self.new ≡ fill_with (fill_of self.old) (39 + length pending.old.bytes)) }
+        ensures none { OnOk result (pending.new ≡ none_pending) }
+        ensures fewer { pending.new.count ≤ pending.old.count }
+        ensures no_memory { falls_due (fill_of self.old) (39 + length pending.old.bytes) ≡ false → IfErr result (λ why. why ≢ fault.Memory) }
         ensures untouched { IsErrOf result StateFault.Memory → shelf.new ≡ shelf.old }
-        ensures written { RisesUpTo (commit_writes (fill_of self.old) (length changes.now) (record { mailbox = mailbox.now.mailbox; position = position }))
+        ensures written { RisesUpTo (commit_writes (fill_of self.old) (length pending.old.bytes) (record { mailbox = mailbox.now.mailbox; position = position }))
             (H.written shelf.old) (H.written shelf.new) }
         ensures reads { steps.new ≤ steps.old
-            + commit_reads (fill_of self.old) (length changes.now) (record { mailbox = mailbox.now.mailbox; position = position }) }
+            + commit_reads (fill_of self.old) (length pending.old.bytes) (record { mailbox = mailbox.now.mailbox; position = position }) }
         ensures later { H.faults shelf.old ≤ H.faults shelf.new }
         ensures cause { IsErrOf result StateFault.Disk → Rose (H.faults shelf.old) (H.faults shelf.new) }
         ensures undamaged { IfErr result (λ why. (why ≡ fault.Disk) ⊎ (why ≡ fault.Memory)) }
     {
-        if self.is_due(changes) {
-            save_state(self, alloc, shelf, mailbox, position, steps)
-        } else {
-            append_changes(self, alloc, shelf, position, n, changes)
+        if self.is_due(pending.size()) {
+            save_state(self, alloc, shelf, mailbox, position, steps)?;
+            pending.clear();
+            return Ok(());
         }
+        append_pending(self, shelf, position, pending)?;
+        Ok(())
     }
 }

@@ -4,10 +4,11 @@ pub mod ReadingLaws
 pub mod CutLaws
 pub mod SpellingLaws
 pub mod Appended
-pub mod BodyLaws
 pub mod JointLaw
 pub mod ValidLaws
+pub mod Filled
 pub mod FirstFrame
 pub mod Steps
 pub mod Opened
+pub mod Waiting
 mod Rows

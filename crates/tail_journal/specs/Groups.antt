@@ -1,5 +1,5 @@
 -- Groups: how the bytes of place T are read from a count.
-use Rattle.std.specs.Prelude.{◌≡◌, ℕ, ◌+◌, ◌-◌, ◌^◌, ◌&&◌, List, [], ◌∷◌, length, Result, Ok, Err, if◌then◌else◌, ◌==◌, nat_lt, nat_le}
+use Rattle.std.specs.Prelude.{ℕ, ◌+◌, ◌-◌, ◌^◌, ◌&&◌, List, [], ◌∷◌, length, Result, Ok, Err, if◌then◌else◌, ◌==◌, nat_lt, nat_le}
 use Rattle.std.specs.Int.{w16, w64}
 use Rattle.mailbox_model.specs.declared.change.Change.{Change}
 use Rattle.card_record.specs.Reading.{◌>>=◌, Read, number_at, ruled, times_of}
@@ -7,8 +7,6 @@ use Rattle.state_image.specs.declared.position.Position.{Position}
 use Rattle.state_image.specs.Changes.{change_at}
 use Rattle.state_image.specs.Images.{lines_at}
 use Rattle.tail_journal.specs.declared.body.Head.{Head}
-use Rattle.tail_journal.specs.declared.body.BodyFault.{BodyFault}
-use Rattle.tail_journal.specs.declared.body.BodyFault.TheVariants as faults
 use Rattle.tail_journal.specs.Frames.{Frame, frame_size, frames}
 
 -- what a group that is applied holds: the position after it, and its changes, each with a place
@@ -93,14 +91,3 @@ reading_on at count (frame ∷ more) =
 -- T, read from a count: what is applied, or the offset of the first damage
 abbrev pub reading : ℕ → List ℕ → Result Reading ℕ
 reading count bytes = reading_on 0 count (frames bytes)
-
--- ---- what reading a body answers
-
--- What is answered is what is read of so many bytes, a fault being told by its offset, unless memory ran out.
-abbrev pub FailsIn : {Y : Type 0} → ℕ → BodyFault → Result Y ℕ → Type 0
-FailsIn size (faults.Malformed at) read = (left : ℕ) × (read ≡ Err left) × (at ≡ size - left)
-FailsIn size faults.Memory read = Unit {0}
-
-abbrev pub GivesIn : {X Y : Type 0} → ℕ → (X → Y) → Result X BodyFault → Result Y ℕ → Type 0
-GivesIn size view (Ok x) read = read ≡ Ok (view x)
-GivesIn size view (Err fault) read = FailsIn size fault read

@@ -6,8 +6,9 @@ ghost use Rattle.tail_journal.specs.Frames.{frames, is_whole, IsWholeFrame, IsFi
 ghost use Rattle.tail_journal.specs.Groups.{applied, within_limit, position_after};
 ghost use Rattle.tail_journal.specs.Read.{applied_of, Gives};
 
-use crate::body::{BodyFault, Head, read_body};
+use crate::body::{Head, read_body};
 use crate::group::Group;
+use card_record::ReadFault;
 use mailbox_model::Change;
 use outside::{Place, StateFault};
 use state_image::{MAX_COUNT, Position};
@@ -50,8 +51,11 @@ pub fn read_group(alloc: Global, at: u64, base: u64, body: &[u8]) -> Result<Grou
     let start = at + FRONT;
     match read_body(alloc, at + (FRONT + body.len() as u64), body) {
         Ok((head, changes)) => group_of(at, base, head, changes),
-        Err(BodyFault::Malformed(bad)) => Err(StateFault::Damaged(Place::T, start + bad as u64)),
-        Err(BodyFault::Memory) => Err(StateFault::Memory),
+        Err(ReadFault::Malformed(left)) => {
+            let bad = body.len().saturating_sub(left) as u64;
+            Err(StateFault::Damaged(Place::T, start + bad))
+        }
+        Err(ReadFault::Memory) => Err(StateFault::Memory),
     }
 }
 

@@ -1,12 +1,10 @@
 //! Groups as bytes.
-ghost use Rattle.std.specs.Prelude.{◌≡◌, ◌≤◌, ◌+◌, ◌++◌, ℕ, List, length, IfOk, OnOk};
+ghost use Rattle.std.specs.Prelude.{◌≡◌, ◌≤◌, ◌+◌, ◌++◌, ℕ, List, length, take, drop, IfOk};
 ghost use Rattle.mailbox_model.specs.declared.change.Change.{Change};
-ghost use Rattle.card_type.specs.Records as records;
 ghost use Rattle.tail_journal.specs.Spelling.{IsBatch, AreSpelled, body_spelled, open_group, group_spelled};
 
 use crate::body::HEAD;
 use crate::frames::FRONT;
-use card_record::{Written, write_block, write_count};
 use kit::Memory;
 use mailbox_model::Change;
 use state_image::Position;
@@ -24,17 +22,28 @@ pub struct Group {
     pub changes: Vec<(u64, Change)>,
 }
 
-/// The body of a group of so many changes with this spelling.
-fn spell_body(alloc: Global, position: Position, n: u16, changes: &[u8]) -> Result<Vec<u8>, Memory>
-    ensures { IfOk result (λ body. body.items ≡ body_spelled position n changes.now) }
+/// Puts the bytes of a number at an offset of a group, over those there.
+fn put(group: &mut [u8], at: usize, number: &[u8])
+    requires { at + length number.now ≤ length group.old }
+    ensures { group.new ≡ take at group.old ++ number.now ++ drop (at + length number.now) group.old }
 {
-    let mut body = Vec::new(alloc);
-    body.extend_from_slice(&n.to_be_bytes())?;
-    position.mbox.write(&mut body)?;
-    position.steps.write(&mut body)?;
-    position.lines.write(&mut body)?;
-    body.extend_from_slice(changes)?;
-    Ok(body)
+    let end = at + number.len();
+    group[at..end].copy_from_slice(number);
+}
+
+/// Fills in what stands before the n changes of a group, with an open gate.
+pub fn fill_head(group: &mut [u8], base: u64, position: Position, n: u16)
+    requires { 39 ≤ length group.old }
+    ensures { group.new ≡ open_group base (body_spelled position n (drop 39 group.old)) }
+{
+    let size = group.len() - FRONT as usize;
+    put(group, 0, &[1]);
+    put(group, 1, &base.to_be_bytes());
+    put(group, 9, &size.to_be_bytes()[4..]);
+    put(group, 13, &n.to_be_bytes());
+    put(group, 15, &position.mbox.to_be_bytes());
+    put(group, 23, &position.steps.to_be_bytes());
+    put(group, 31, &position.lines.to_be_bytes());
 }
 
 /// The written form of a group: n changes, from 1 to 256 and valid, that are spelled so, with the count before them and
@@ -52,10 +61,8 @@ pub fn write_group(
     ensures { IfOk result (λ group. (held : List Change) → AreSpelled n changes.now held
         → group.items ≡ group_spelled (record { base = base; position = position; changes = held })) }
 {
-    let body = spell_body(alloc, position, n, changes)?;
-    let mut group = Vec::new(alloc);
-    group.push(1)?;
-    base.write(&mut group)?;
-    write_block(&mut group, &body)?;
+    let mut group = Vec::from_slice(alloc, &[0; GROUP_HEAD])?;
+    group.extend_from_slice(changes)?;
+    fill_head(&mut group, base, position, n);
     Ok(group)
 }

@@ -8,9 +8,11 @@ mod frames;
 mod group;
 mod laws;
 mod opening;
+mod pending;
 mod reading;
 mod tail;
 
 pub use group::{GROUP_HEAD, Group, write_group};
 pub use laws::{a_spelled_group_is_read, no_group_is_applied_twice};
+pub use pending::Pending;
 pub use tail::Tail;

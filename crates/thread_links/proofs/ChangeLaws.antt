@@ -13,7 +13,7 @@ use Rattle.std.proofs.lemmas.Bool.{both_ways, cases_Bool, false≢true}
 use Rattle.lists.specs.Sorted.{insert_by}
 use Rattle.lists.proofs.Inserts.{None_of, none_filtered, list_any-insert_by}
 use Rattle.lists.proofs.Rising.{Rising, sorted_from}
-use Rattle.sorted_lists.specs.Ordered.{Ordered, values_at}
+use Rattle.lists.specs.Ordered.{Ordered, values_at}
 use Rattle.card_type.specs.declared.key.ChatKey.{ChatKey}
 use Rattle.card_type.specs.declared.spot.Spot.{Spot}
 use Rattle.card_type.specs.Effects.{is_among}

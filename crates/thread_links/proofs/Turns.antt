@@ -16,7 +16,7 @@ use Rattle.std.proofs.lemmas.List.Elements.{All-head, All-tail}
 use Rattle.std.proofs.lemmas.List.Folds.{list_any-append}
 use Rattle.lists.proofs.Inserts.{list_any-found}
 use Rattle.lists.proofs.Rising.{Rising, Above}
-use Rattle.sorted_lists.specs.Ordered.{Ordered, values_at}
+use Rattle.lists.specs.Ordered.{Ordered, values_at}
 use Rattle.card_type.specs.declared.key.ChatKey.{ChatKey}
 use Rattle.card_type.specs.declared.spot.Spot.{Spot}
 use Rattle.card_type.specs.Effects.{is_among}

@@ -7,7 +7,7 @@ use Rattle.std.specs.Cmp.Lexicographic.{slice_cmp}
 use Rattle.std.specs.Map.{lookup, keys_of}
 use Rattle.std.specs.Str.{bytes_eq}
 use Rattle.lists.specs.Sorted.{sorted_by}
-use Rattle.sorted_lists.specs.Ordered.{Ordered, values_at}
+use Rattle.lists.specs.Ordered.{Ordered, values_at}
 use Rattle.card_type.specs.declared.key.ChatKey.{ChatKey}
 use Rattle.card_type.specs.declared.spot.Spot.{Spot}
 use Rattle.card_type.specs.Spots.{spot_cmp}

@@ -5,7 +5,7 @@ ghost use Rattle.std.specs.Option.{option_and_then, option_copied};
 ghost use Rattle.std.specs.Ordering.{eq_by_cmp};
 ghost use Rattle.std.specs.Str.{bytes_eq};
 ghost use Rattle.lists.specs.Sorted.{insert_by};
-ghost use Rattle.sorted_lists.specs.Ordered.{values_at};
+ghost use Rattle.lists.specs.Ordered.{values_at};
 ghost use Rattle.card_type.specs.Effects.{is_among};
 ghost use Rattle.card_type.specs.Spots.{spot_cmp};
 ghost use Rattle.mailbox_model.specs.Chats.{chat_from, cites_cmp, is_id_among};
@@ -14,8 +14,8 @@ ghost use Rattle.thread_links.specs.Kept.{kept_at, chat_in, cites_in, without_ch
 
 use card_type::{ChatKey, Spot};
 use kit::{Id, Memory};
+use lists::SortedById;
 use mailbox_model::Cites;
-use sorted_lists::SortedById;
 use std::collections::BTreeMap;
 
 /// The cites of one card, with its chat.

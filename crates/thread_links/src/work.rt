@@ -5,7 +5,7 @@ ghost use Rattle.std.specs.Option.{option_and_then, option_eq};
 ghost use Rattle.std.specs.Ordering.{eq_by_cmp};
 ghost use Rattle.std.specs.BTreeSet.{contains};
 ghost use Rattle.std.specs.Str.{bytes_eq};
-ghost use Rattle.sorted_lists.specs.Ordered.{values_at};
+ghost use Rattle.lists.specs.Ordered.{values_at};
 ghost use Rattle.card_type.specs.Keys.{key_eq};
 ghost use Rattle.card_type.specs.Spots.{spot_cmp};
 ghost use Rattle.lists.specs.Sorted.{insert_by};
@@ -17,8 +17,8 @@ ghost use Rattle.thread_links.specs.Work.{is_later_of, IsBegun};
 use crate::kept::{Kept, keep, next_chat, set_chat, take_out};
 use card_type::{ChatKey, Spot};
 use kit::{Id, Memory};
+use lists::SortedById;
 use mailbox_model::{Cites, Moved};
-use sorted_lists::SortedById;
 use std::alloc::Global;
 use std::collections::{BTreeMap, BTreeSet};
 

@@ -14,7 +14,7 @@ pub enum TrialFault {
     #[error("mailbox full")]
     Full,
     /// The sink failed, and a prefix of the summary may have been put.
-    #[error("the text could not be written")]
+    #[error("write fault")]
     Write,
     /// Memory ran out, and nothing was put.
     #[error("out of memory")]

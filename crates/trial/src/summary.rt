@@ -78,8 +78,8 @@ fn count_pages<L: Ledger>(
     ensures summary { IfOk result (λ summary. summary ≡ summary_of engine.now.mailbox) }
     ensures cost { steps.new ≤ steps.old + pages_cost engine.now.mailbox }
 {
-    // For its clause `rules`: a mailbox has no more than 65,536 mails, and so its list and its pages no more rows.
-    let _me = engine.mailbox().me();
+    // A mailbox has no more than 65,536 mails, and so its list and its pages no more rows.
+    engine.keeps_rules();
     a_mailbox_is_bounded();
     list_has_each_chat();
     let mut shown = 0;

@@ -1,11 +1,12 @@
 //! What changes do.
 ghost use Rattle.std.specs.Prelude.{◌≡◌, ◌≤◌, ◌<◌, ◌+◌, false, Ok, Err, None};
 ghost use Rattle.kit.specs.Moments.{last_moment};
+ghost use Rattle.card_type.specs.Records as records;
 ghost use Rattle.mailbox_model.specs.Mailbox.{after, full, end_of_uids, IsMailbox, IsValidChange};
 ghost use Rattle.mailbox_model.specs.declared.change.Change.TheVariants.{Arrive, ArriveFault, Expunge, Seen, At};
 ghost use Rattle.mailbox_model.specs.declared.item.Held.TheVariants as is_held;
-ghost use Rattle.box_state.specs.Kept.{IsReady};
-ghost use Rattle.box_state.specs.Entries.{entry_with, with_entry};
+ghost use Rattle.box_state.specs.Kept.{with_entry, IsReady};
+ghost use Rattle.box_state.specs.Entries.{entry_with};
 ghost use Rattle.box_state.specs.declared.ready.Ready.TheVariants.{Unready, ForFault, ForCard};
 
 use crate::mailbox::{Mailbox, spot_in};
@@ -41,7 +42,8 @@ impl Mailbox {
         ensures ready { self.new.ready ≡ Unready }
     {
         let item = self.next_item(Held::Card);
-        self.put_card(item, card);
+        let weight = weight(&card);
+        self.put_card(item, card, weight);
     }
 
     fn arrive_fault(&mut self, fault: Fault)
@@ -72,8 +74,9 @@ impl Mailbox {
         }
     }
 
-    /// An item follows the others, and this is its card.
-    pub(super) fn put_card(&mut self, item: Item, card: Card)
+    /// An item follows the others, and this is its card, which weighs so much.
+    pub(super) fn put_card(&mut self, item: Item, card: Card, weight: u64)
+        requires weight { weight ≡ records.weight card }
         requires held { item.held ≡ is_held.Card }
         requires rules { IsMailbox (with_entry self.old.mailbox (entry_with item (Ok card))) }
         requires ready { self.old.ready ≡ ForCard card.id }
@@ -81,7 +84,7 @@ impl Mailbox {
         ensures ready { self.new.ready ≡ Unready }
     {
         if let Ready::ForCard(id) = mem::replace(&mut self.ready, Ready::Unready) {
-            self.weight = self.weight + weight(&card);
+            self.weight = self.weight + weight;
             self.spots
                 .insert(spot_in(&card, id, item.arrival, item.uid));
             self.cards.insert(item.uid, card);

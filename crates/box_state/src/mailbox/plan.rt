@@ -10,14 +10,8 @@ ghost use Rattle.box_state.specs.declared.mailbox.plan.PlanFault.TheVariants.{Me
 use crate::mailbox::{Mailbox, spot_in};
 use card_type::{Card, Spot, weight};
 use kit::Memory;
-use mailbox_model::{Change, Turn};
+use mailbox_model::{Change, MAX_MAILS, MAX_TOTAL_WEIGHT, Turn};
 use thiserror::Error;
-
-/// The most items that a mailbox has.
-const MAX_ITEMS: usize = 65_536;
-
-/// The most that all cards weigh together.
-const MAX_TOTAL_WEIGHT: u64 = 268_435_456;
 
 /// No mail has this uid.
 const END_OF_UIDS: u32 = u32::MAX;
@@ -76,7 +70,7 @@ impl Mailbox {
     fn lacks_room(&self, more: u64) -> bool
         ensures { result ≡ lacks_room self.now.mailbox more }
     {
-        self.items.len() >= MAX_ITEMS
+        self.items.len() >= MAX_MAILS as usize
             || self.next_uid >= END_OF_UIDS
             || self.weight.saturating_add(more) > MAX_TOTAL_WEIGHT
     }

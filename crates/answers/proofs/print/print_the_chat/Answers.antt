@@ -1,6 +1,5 @@
 use Rattle.std.proofs.lemmas.Result.{err_from_is_err_and}
-use Rattle.std.proofs.Common.{◌≡◌, ◌≢◌, refl, Err, ap, subst}
-use Rattle.mailbox_model.specs.Mailbox.{IsMailbox}
+use Rattle.std.proofs.Common.{◌≡◌, ◌≢◌, refl, Err, ap}
 use Rattle.outside.specs.declared.faults.PrintFault.{PrintFault}
 use Rattle.outside.specs.declared.faults.PrintFault.TheVariants as printing
 use Rattle.answers.specs.Answers.{print_fault}
@@ -11,8 +10,7 @@ use Rattle.answers.proofs.print.print_the_chat.Goals as goal
 
 pub returns-in_default-clause-puts : goal.returns-in_default-clause-puts
 returns-in_default-clause-puts g c =
-    let rules = subst IsMailbox c.mailbox.ensures c.me-me.ensures.rules in
-    no_answer c.args.engine.now.mailbox c.args.text.now _ _ rules (no_key c.in_ok-key.field-0 c.bytes.result.now c.args.text.now c.in_default.is c.bytes.ensures.same c.in_ok-key.ensures.none)
+    no_answer c.args.engine.now.mailbox c.args.text.now _ _ c.keeps_rules.ensures (no_key c.in_ok-key.field-0 c.bytes.result.now c.args.text.now c.in_default.is c.bytes.ensures.same c.in_ok-key.ensures.none)
 
 pub returns-in_err-page-clause-puts : goal.returns-in_err-page-clause-puts
 returns-in_err-page-clause-puts g c =

@@ -19,7 +19,7 @@ loop-made-preserved c =
     let drawn = c.draw_mail-draws.ensures in
     record {
       at = seven_more c.loop-made.made _ _ _ before.at drawn.rest;
-      so_far = mail_more c.args.number c.args.n c.loop-made.made c.text_of-me.result.now _ _ _ _ before.so_far before.at drawn.value c.in_ok-push_mail.ensures;
+      so_far = mail_more c.args.number c.args.n c.loop-made.made c.as_str-me.result.now _ _ _ _ before.so_far before.at drawn.value c.in_ok-push_mail.ensures;
     }
 
 pub returns : goal.returns
@@ -28,4 +28,4 @@ returns c =
     let last : c.loop-made.made ≡ c.args.n = omega arith in
     let bytes : c.into_bytes.result.items ≡ string_bytes c.loop-made.text = search rules in
     bytes ∙ c.loop-made.invariant.so_far
-    ∙ (λ i. flat_map (mail_of c.args.number c.args.n (c.text_of-me.ensures i)) (range_with_len 1 (last i)))
+    ∙ (λ i. flat_map (mail_of c.args.number c.args.n (c.as_str-me.ensures i)) (range_with_len 1 (last i)))

@@ -2,8 +2,8 @@ use Rattle.std.proofs.Common.{◌≡◌, ◌+◌, ◌-◌, ◌<◌, None, Some, 
 use Rattle.std.specs.Prelude.{option_map}
 use Rattle.std.specs.Option.{option_or}
 use Rattle.std.proofs.lemmas.List.{length-append}
-use Rattle.chunked_list.specs.Places.{joined}
-use Rattle.chunked_list.proofs.Joined.{chunk_at}
+use Rattle.lists.specs.Chunks.{joined}
+use Rattle.lists.proofs.Joined.{chunk_at}
 use Rattle.chat_view.specs.Changes.{last_shown}
 use Rattle.chat_view.proofs.Told.{joined_up_to, last_shown_in, last_shown_within}
 use Rattle.chat_view.proofs.changes.last_shown.Goals as goal

@@ -1,5 +1,5 @@
 use Rattle.std.proofs.Common.{◌≡◌, ◌≤◌, length, take}
-use Rattle.chunked_list.specs.Places.{joined}
+use Rattle.lists.specs.Chunks.{joined}
 use Rattle.chat_view.specs.Changes.{last_shown}
 use Rattle.chat_view.proofs.changes.last_shown.Given as goal
 

@@ -18,5 +18,5 @@ returns-in-Err-clause-line g c = (
   refl,
   inr refl,
   put_whole (g.K.Sink.held c.args.out.now) (g.K.Sink.held c.put-in-Err.new.self) (g.K.Sink.faults c.args.out.now) (g.K.Sink.faults c.put-in-Err.new.self) _ _ _
-      (c.as_bytes-in-Err.ensures.value ∙ c.fixed_line.ensures) c.put-in-Err.ensures.bytes c.put-in-Err.ensures.cause,
+      c.as_bytes-in-Err.ensures.value c.put-in-Err.ensures.bytes c.put-in-Err.ensures.cause,
 )

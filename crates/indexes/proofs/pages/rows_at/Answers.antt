@@ -4,8 +4,8 @@ use Rattle.std.specs.List.{AllByRecursion}
 use Rattle.std.proofs.lemmas.List.{take_all}
 use Rattle.std.proofs.lemmas.List.Elements.{filter_map-append}
 use Rattle.card_type.specs.declared.spot.Spot.{Spot}
-use Rattle.chunked_list.specs.Places.{joined}
-use Rattle.chunked_list.proofs.Steps.{all_of, next, sum_next, sum_within}
+use Rattle.lists.specs.Chunks.{joined}
+use Rattle.lists.proofs.ChunkSteps.{all_of, next, sum_next, sum_within}
 use Rattle.indexes.specs.Costs.{times_named}
 use Rattle.indexes.specs.Kept.{spot_at}
 use Rattle.indexes.proofs.Paged.{row_there}

@@ -1,6 +1,6 @@
 use Rattle.std.proofs.Common.{◌≡◌, ◌≤◌, ◌+◌, take}
 use Rattle.std.specs.Prelude.{filter_map, sum_by}
-use Rattle.chunked_list.specs.Places.{joined}
+use Rattle.lists.specs.Chunks.{joined}
 use Rattle.indexes.specs.Costs.{times_named}
 use Rattle.indexes.proofs.Paged.{row_there}
 use Rattle.indexes.proofs.pages.rows_at.Given as goal

@@ -14,10 +14,10 @@ known c =
 
 pub unwrap-spot-requires : goal.unwrap-spot-requires
 unwrap-spot-requires c =
-    spot_lent c.args.view.now c.me-me.ensures.rules c.args.id.now c.in_ok-chat.chat (known (goal.at.unwrap-spot-requires c).In_ok-chat) c.spot_of.result
+    spot_lent c.args.view.now c.keeps_rules.ensures c.args.id.now c.in_ok-chat.chat (known (goal.at.unwrap-spot-requires c).In_ok-chat) c.spot_of.result
     c.spot_of.ensures
 
 pub returns : goal.returns
 returns c =
-    place_lent c.args.view.now c.me-me.ensures.rules c.args.id.now c.in_ok-chat.chat (known (goal.at.returns c).In_ok-chat) c.spot_of.result
+    place_lent c.args.view.now c.keeps_rules.ensures c.args.id.now c.in_ok-chat.chat (known (goal.at.returns c).In_ok-chat) c.spot_of.result
     c.spot_of.ensures c.unwrap-spot.result c.unwrap-spot.ensures

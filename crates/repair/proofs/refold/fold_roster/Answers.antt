@@ -5,8 +5,8 @@ use Rattle.std.specs.Option.{option_map}
 use Rattle.std.proofs.lemmas.List.{take_all}
 use Rattle.std.proofs.lemmas.List.Elements.{filter_map-append}
 use Rattle.card_type.specs.declared.spot.Spot.{Spot}
-use Rattle.chunked_list.specs.Places.{joined}
-use Rattle.chunked_list.proofs.Steps.{all_of, length_next, length_within, next}
+use Rattle.lists.specs.Chunks.{joined}
+use Rattle.lists.proofs.ChunkSteps.{all_of, length_next, length_within, next}
 use Rattle.group_roster.specs.Setters.{RestsOn, at}
 use Rattle.group_roster.specs.Standing.{StandsFor}
 use Rattle.mailbox_model.specs.Mailbox.{card_at}

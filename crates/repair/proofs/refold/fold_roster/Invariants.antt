@@ -1,5 +1,5 @@
 use Rattle.std.proofs.Common.{◌≤◌, ◌+◌, length, take}
-use Rattle.chunked_list.specs.Places.{joined}
+use Rattle.lists.specs.Chunks.{joined}
 use Rattle.group_roster.specs.Setters.{RestsOn}
 use Rattle.repair.specs.Cards.{cards_at}
 use Rattle.repair.proofs.refold.fold_roster.Given as goal

@@ -3,7 +3,7 @@ use Rattle.std.specs.Prelude.{is_some}
 use Rattle.std.specs.FinMap as map_of
 use Rattle.std.specs.List.{AllByRecursion}
 use Rattle.std.proofs.lemmas.Result.{on_ok_weaker}
-use Rattle.chunked_list.specs.Places.{joined}
+use Rattle.lists.specs.Chunks.{joined}
 use Rattle.group_roster.specs.Setters.{RestsOn}
 use Rattle.mailbox_model.specs.Mailbox.{card_at}
 use Rattle.mailbox_model.specs.States.{chat_cards}
@@ -15,7 +15,7 @@ use Rattle.repair.proofs.refold.refold.Goals as goal
 pub fold_roster-requires : goal.fold_roster-requires
 fold_roster-requires g c =
     let n = c.args.view.now in
-    let rules = c.me-me.ensures.rules in
+    let rules = c.keeps_rules.ensures in
     let key = c.args.key.now in
     let are = spots_are n rules key n.me (c.requires.states.0 key) (map_of.get c.args.chats.now key) (c.requires.states.1 key) (joined c.spots_of.result.now) c.spots_of.ensures.some c.spots_of.ensures.none in
     record { there = subst (AllByRecursion (λ s. is_some (card_at n s.uid) ≡ true)) (sym are) (all_there n rules key) }
@@ -24,7 +24,7 @@ fold_roster-requires g c =
 pub returns-in_err-roster-clause-cost : goal.returns-in_err-roster-clause-cost
 returns-in_err-roster-clause-cost g c =
     let n = c.args.view.now in
-    let rules = c.me-me.ensures.rules in
+    let rules = c.keeps_rules.ensures in
     let key = c.args.key.now in
     let are = spots_are n rules key n.me (c.requires.states.0 key) (map_of.get c.args.chats.now key) (c.requires.states.1 key) (joined c.spots_of.result.now) c.spots_of.ensures.some c.spots_of.ensures.none in
     omega (arith, c.fold_roster.ensures.cost, ap length are, as_many n rules key)
@@ -32,7 +32,7 @@ returns-in_err-roster-clause-cost g c =
 pub returns-clause-cost : goal.returns-clause-cost
 returns-clause-cost g c =
     let n = c.args.view.now in
-    let rules = c.me-me.ensures.rules in
+    let rules = c.keeps_rules.ensures in
     let key = c.args.key.now in
     let are = spots_are n rules key n.me (c.requires.states.0 key) (map_of.get c.args.chats.now key) (c.requires.states.1 key) (joined c.spots_of.result.now) c.spots_of.ensures.some c.spots_of.ensures.none in
     omega (arith, c.fold_roster.ensures.cost, ap length are, as_many n rules key)
@@ -40,7 +40,7 @@ returns-clause-cost g c =
 pub returns-clause-states : goal.returns-clause-states
 returns-clause-states g c =
     let n = c.args.view.now in
-    let rules = c.me-me.ensures.rules in
+    let rules = c.keeps_rules.ensures in
     let key = c.args.key.now in
     let are = spots_are n rules key n.me (c.requires.states.0 key) (map_of.get c.args.chats.now key) (c.requires.states.1 key) (joined c.spots_of.result.now) c.spots_of.ensures.some c.spots_of.ensures.none in
     let rests = subst (λ cards. RestsOn n.me key cards c.in_ok-roster.roster c.in_ok-roster.setters) (ap (cards_at n) are ∙ all_read n rules key) c.in_ok-roster.ensures.rests in

@@ -28,7 +28,7 @@ returns-then-is_same-clause-between g c =
     let noted = touched g (goal.at.returns-then-is_same-clause-between g c).In_ok-note-2 in
     let made = c.remark.ensures in
     on_ok_four c.remark.result made.states made.others made.timers made.rest (λ states others timers rest pending start new kept.
-    stayed m n c.me-me.ensures.rules c.me-me_after.ensures.rules c.requires.uids id pending new c.args.noted.now c.note-2.new.self start
+    stayed m n c.keeps_rules.ensures c.keeps_rules-2.ensures c.requires.uids id pending new c.args.noted.now c.note-2.new.self start
     c.args.indexes.now c.remark.new.indexes kept noted rest are unchanged states others timers)
 
 pub returns-then-is_same-clause-touched : goal.returns-then-is_same-clause-touched
@@ -45,7 +45,7 @@ returns-clause-between g c =
     let both = touched g (goal.at.returns-clause-between g c).In_ok-note-2 in
     let made = c.put_into_chat.ensures in
     on_ok_five c.put_into_chat.result made.states made.others made.notes made.timers made.rest (λ states others notes timers rest pending start new kept.
-    moved m n c.me-me.ensures.rules c.me-me_after.ensures.rules c.requires.uids id pending new c.args.noted.now noted start
+    moved m n c.keeps_rules.ensures c.keeps_rules-2.ensures c.requires.uids id pending new c.args.noted.now noted start
     c.args.indexes.now c.put_into_chat.new.indexes kept both (rest_through c.args.indexes.now c.take_from_chat.new.indexes c.put_into_chat.new.indexes left.rest rest)
     c.take_from_chat.new.indexes c.note-2.new.self.unsettled c.take_from_chat.new.unsettled unchanged
     left.states states left.others others left.notes notes left.timers timers)

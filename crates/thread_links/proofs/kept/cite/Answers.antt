@@ -1,7 +1,7 @@
 use Rattle.std.proofs.Common.{◌∙◌, ap}
 use Rattle.std.specs.Prelude.{not, filter}
 use Rattle.std.specs.Ordering.{eq_by_cmp}
-use Rattle.sorted_lists.specs.Ordered.{values_at}
+use Rattle.lists.specs.Ordered.{values_at}
 use Rattle.lists.specs.Sorted.{insert_by}
 use Rattle.card_type.specs.Spots.{spot_cmp}
 use Rattle.thread_links.proofs.Citing.{cited_more}

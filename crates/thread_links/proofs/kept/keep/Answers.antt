@@ -2,7 +2,7 @@ use Rattle.std.proofs.Common.{◌∙◌, ap}
 use Rattle.std.specs.Prelude.{if◌then◌else◌}
 use Rattle.std.specs.List.{list_any}
 use Rattle.lists.specs.Sorted.{insert_by}
-use Rattle.sorted_lists.specs.Ordered.{values_at}
+use Rattle.lists.specs.Ordered.{values_at}
 use Rattle.card_type.specs.Effects.{is_among}
 use Rattle.card_type.specs.Spots.{spot_cmp}
 use Rattle.thread_links.specs.Kept.{cites_in}

@@ -1,6 +1,6 @@
 use Rattle.std.proofs.Common.{◌∙◌, sym, ap}
 use Rattle.std.specs.Prelude.{if◌then◌else◌}
-use Rattle.sorted_lists.specs.Ordered.{values_at}
+use Rattle.lists.specs.Ordered.{values_at}
 use Rattle.card_type.specs.Effects.{is_among}
 use Rattle.thread_links.proofs.Citing.{but}
 use Rattle.thread_links.proofs.KeptLaws.{looked}

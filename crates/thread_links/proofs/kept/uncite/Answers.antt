@@ -1,4 +1,4 @@
-use Rattle.sorted_lists.specs.Ordered.{values_at}
+use Rattle.lists.specs.Ordered.{values_at}
 use Rattle.thread_links.proofs.Citing.{uncited_more}
 use Rattle.thread_links.proofs.kept.uncite.Goals as goal
 

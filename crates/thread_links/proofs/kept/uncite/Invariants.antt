@@ -1,7 +1,7 @@
 use Rattle.std.proofs.Common.{◌≡◌, ℕ, List, not, take}
 use Rattle.std.specs.Prelude.{if◌then◌else◌, filter}
 use Rattle.std.specs.Ordering.{eq_by_cmp}
-use Rattle.sorted_lists.specs.Ordered.{values_at}
+use Rattle.lists.specs.Ordered.{values_at}
 use Rattle.card_type.specs.Effects.{is_among}
 use Rattle.card_type.specs.Spots.{spot_cmp}
 use Rattle.thread_links.proofs.kept.uncite.Given as goal

@@ -5,7 +5,7 @@ use Rattle.card_type.specs.declared.spot.Spot.{Spot}
 use Rattle.card_type.specs.Spots.{spot_cmp}
 use Rattle.mailbox_model.specs.declared.links.Cites.{Cites}
 use Rattle.mailbox_model.specs.Chats.{moved, chat_among, moves}
-use Rattle.sorted_lists.specs.Ordered.{values_at}
+use Rattle.lists.specs.Ordered.{values_at}
 use Rattle.thread_links.specs.Linked.{citing}
 use Rattle.thread_links.specs.Kept.{chat_in, cites_in}
 use Rattle.thread_links.specs.Work.{is_later_of}

@@ -1,11 +1,10 @@
-use Rattle.std.proofs.Common.{◌≡◌, ℕ, ◌≤◌, ◌+◌, ◌*◌, length, take, ap, subst, sym, ◌∙◌, arith}
+use Rattle.std.proofs.Common.{◌≡◌, ℕ, ◌≤◌, ◌+◌, ◌*◌, length, take, ap, sym, ◌∙◌, arith}
 use Rattle.std.specs.Prelude.{sum_by}
 use Rattle.std.specs.List.{list_any}
 use Rattle.card_type.specs.Keys.{key_eq}
 use Rattle.mailbox_model.specs.declared.list.ListPage.{ListPage}
 use Rattle.mailbox_model.specs.declared.list.ListRow.{ListRow}
 use Rattle.mailbox_model.specs.ChatList.{list_page}
-use Rattle.mailbox_model.specs.Mailbox.{IsMailbox}
 use Rattle.mailbox_model.specs.Pages.{page_of}
 use Rattle.indexes.specs.Costs.{page_cost}
 use Rattle.indexes.proofs.PagedSteps.{sum_next, sum_within}
@@ -42,7 +41,7 @@ overflow_add-shown g c =
     let m = c.args.engine.now.mailbox in
     let rows = c.as_slice-row-items.result.now in
     let same : rows ≡ (list_page m).rows = c.as_slice-row-items.ensures ∙ ap (λ (p : ListPage). p.rows) c.requires.list in
-    let contents = c.a_mailbox_is_bounded.ensures.contents m (subst IsMailbox c.mailbox.ensures c.me-me.ensures.rules) in
+    let contents = c.a_mailbox_is_bounded.ensures.contents m c.keeps_rules.ensures in
     let short : length (list_page m).rows ≤ 65536 = list_is_short m (c.list_has_each_chat.ensures.rows m) contents in
     let page : length (page_of m c.row-item.result.key).rows ≤ 65536 = page_is_short m c.row-item.result.key contents in
     let few : c.loop-row.shown ≤ 65536 * c.loop-row.row-index = c.loop-row.invariant.few_shown in
@@ -53,7 +52,7 @@ overflow_add-fresh g c =
     let m = c.args.engine.now.mailbox in
     let rows = c.as_slice-row-items.result.now in
     let same : rows ≡ (list_page m).rows = c.as_slice-row-items.ensures ∙ ap (λ (p : ListPage). p.rows) c.requires.list in
-    let contents = c.a_mailbox_is_bounded.ensures.contents m (subst IsMailbox c.mailbox.ensures c.me-me.ensures.rules) in
+    let contents = c.a_mailbox_is_bounded.ensures.contents m c.keeps_rules.ensures in
     let short : length (list_page m).rows ≤ 65536 = list_is_short m (c.list_has_each_chat.ensures.rows m) contents in
     omega (arith, c.loop-row.invariant.few_fresh, short, c.fresh_in.ensures.small, ap length same, c.loop-row-test.true)
 
@@ -64,7 +63,7 @@ loop-row-preserved g c =
     let i = c.loop-row.row-index in
     let row = c.row-item.result in
     let past = c.loop-row.invariant in
-    let contents = c.a_mailbox_is_bounded.ensures.contents m (subst IsMailbox c.mailbox.ensures c.me-me.ensures.rules) in
+    let contents = c.a_mailbox_is_bounded.ensures.contents m c.keeps_rules.ensures in
     let page : length (page_of m row.key).rows ≤ 65536 = page_is_short m row.key contents in
     let few : c.loop-row.shown ≤ 65536 * i = past.few_shown in
     let more : (f : ListRow → ℕ) → sum_by f (take (i + 1) rows) ≡ sum_by f (take i rows) + f row = sum_next rows i row c.loop-row-test.true c.row-item.is in

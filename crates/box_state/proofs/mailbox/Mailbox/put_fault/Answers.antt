@@ -1,6 +1,7 @@
 use Rattle.std.proofs.Common.{sym, ap, ◌∙◌, subst, Err, ◌++◌, ◌∷◌, []}
 use Rattle.mailbox_model.specs.Mailbox.{IsMailbox}
-use Rattle.box_state.specs.Entries.{entry_with, with_entry}
+use Rattle.box_state.specs.Entries.{entry_with}
+use Rattle.box_state.specs.Kept.{with_entry}
 use Rattle.box_state.specs.Inside.{mailbox_in}
 use Rattle.box_state.specs.declared.ready.Ready.TheVariants.{Unready}
 use Rattle.box_state.proofs.Changed.{Keeps, kept_as, mailbox_as}

@@ -7,12 +7,12 @@ use Rattle.box_state.specs.Entries.{with_item}
 use Rattle.box_state.proofs.Restored.{front_keeps, entries_more, Goes, next_goes}
 use Rattle.box_state.proofs.mailbox.Mailbox.restore.Goals as goal
 
-pub between-mailbox-requires : goal.between-mailbox-requires
-between-mailbox-requires c =
+pub without_mails-mailbox-requires : goal.without_mails-mailbox-requires
+without_mails-mailbox-requires c =
     record { rules = front_keeps (mailbox_of c.args.me c.args.now c.args.next_uid []) [] (entries_of c.args.items.items) c.requires.rules }
 
 pub loop-item-init : goal.loop-item-init
-loop-item-init c = record { made = c.between-mailbox.ensures.mailbox; ready = c.between-mailbox.ensures.ready }
+loop-item-init c = record { made = c.without_mails-mailbox.ensures.mailbox; ready = c.without_mails-mailbox.ensures.ready }
 
 goes : (c : goal.After-mailbox-1) → Goes (mailbox_of c.args.me c.args.now c.args.next_uid c.loop-item.yielded) c.in-Some.item c.in-Some.card
 goes c =
@@ -22,19 +22,19 @@ goes c =
     let turn = YieldsList-turn road taken c.loop-item.item-iterator c.loop-item.yielded_by c.next.result c.next.new.self (c.in-Some.item, c.in-Some.card) c.in-Some.is c.next.ensures.steps in
     next_goes c.args.me c.args.now c.args.next_uid c.args.items.items taken c.in-Some.item c.in-Some.card (sym (map-id taken) ∙ so_far) turn.0 turn.1 c.requires.beside c.requires.rules
 
-pub put_back-requires-clause-beside : goal.put_back-requires-clause-beside
-put_back-requires-clause-beside c = (goes c).beside
+pub put_item-requires-clause-beside : goal.put_item-requires-clause-beside
+put_item-requires-clause-beside c = (goes c).beside
 
-pub put_back-requires-clause-rules : goal.put_back-requires-clause-rules
-put_back-requires-clause-rules c =
+pub put_item-requires-clause-rules : goal.put_item-requires-clause-rules
+put_item-requires-clause-rules c =
     subst (λ m. IsMailbox (with_item m c.in-Some.item c.in-Some.card)) (sym c.loop-item.invariant.made) (goes c).rules
 
 pub loop-item-preserved : goal.loop-item-preserved
 loop-item-preserved c = record {
   made =
-      c.in_ok-put_back.ensures.mailbox ∙ ap (λ m. with_item m c.in-Some.item c.in-Some.card) c.loop-item.invariant.made
+      c.in_ok-put_item.ensures.mailbox ∙ ap (λ m. with_item m c.in-Some.item c.in-Some.card) c.loop-item.invariant.made
       ∙ ap (λ es. record (mailbox_of c.args.me c.args.now c.args.next_uid []) { entries = es }) (sym (entries_more c.loop-item.yielded c.in-Some.item c.in-Some.card));
-  ready = c.in_ok-put_back.ensures.ready;
+  ready = c.in_ok-put_item.ensures.ready;
 }
 
 pub returns-clause-mailbox : goal.returns-clause-mailbox

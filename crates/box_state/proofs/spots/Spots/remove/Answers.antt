@@ -2,7 +2,7 @@ use Rattle.std.proofs.Common.{◌≡◌, refl, sym, ap, ◌∙◌, subst, ℕ, B
 use Rattle.std.specs.Prelude.{if◌then◌else◌, filter}
 use Rattle.std.specs.Str.{bytes_eq}
 use Rattle.std.specs.Cmp.Lexicographic.{bytes_decides}
-use Rattle.sorted_lists.specs.Ordered.{Ordered, values_at}
+use Rattle.lists.specs.Ordered.{Ordered, values_at}
 use Rattle.card_type.specs.declared.spot.Spot.{Spot}
 use Rattle.box_state.specs.Spots.{spot_at, copies_at, copies_but, dated, ties}
 use Rattle.box_state.proofs.spots.Spots.remove.Goals as goal

@@ -3,7 +3,7 @@ use Rattle.std.proofs.lemmas.Bool.{false≢true}
 use Rattle.std.proofs.lemmas.Result.{on_ok_weaker}
 use Rattle.card_type.specs.Spots.{spot_cmp}
 use Rattle.card_type.proofs.Orders.{spots_total}
-use Rattle.sorted_lists.proofs.Searches.{searched}
+use Rattle.lists.proofs.Searches.{searched}
 use Rattle.chat_view.specs.Standing.{IsMarkedFor, shown}
 use Rattle.chat_view.proofs.Changed.{sorted_there, taken_marked, there, there_place}
 use Rattle.chat_view.proofs.Told.{counted}

@@ -7,7 +7,7 @@ use Rattle.card_type.specs.Spots.{spot_cmp}
 use Rattle.card_type.proofs.Orders.{spots_total}
 use Rattle.group_roster.specs.Setters.{at, stays_with}
 use Rattle.group_roster.proofs.Clauses.{both_clauses}
-use Rattle.sorted_lists.proofs.Searches.{searched}
+use Rattle.lists.proofs.Searches.{searched}
 use Rattle.chat_view.specs.Changes.{AreFew}
 use Rattle.chat_view.specs.Standing.{StandsFor, shown}
 use Rattle.chat_view.proofs.Changed.{few_without, put_last, put_place, put_stands, on_ok_each}

@@ -11,7 +11,7 @@ use Rattle.group_roster.proofs.Clauses.{both_clauses}
 use Rattle.chat_view.specs.Standing.{StandsFor, shown}
 use Rattle.chat_view.proofs.Changed.{taken_stands, there_place}
 use Rattle.chat_view.proofs.Told.{counted, marked_from}
-use Rattle.sorted_lists.proofs.Searches.{searched}
+use Rattle.lists.proofs.Searches.{searched}
 use Rattle.chat_view.proofs.state.ChatState.take_out.Goals as goal
 
 pub returns-in-Err-clause-when : goal.returns-in-Err-clause-when

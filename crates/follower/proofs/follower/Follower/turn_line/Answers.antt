@@ -1,7 +1,7 @@
 use Rattle.std.proofs.lemmas.Result.{err_from_is_err_and}
 use Rattle.std.proofs.Common.{◌≡◌, ◌≤◌, ◌+◌, ℕ, List, Err, true, false, ap, subst, sym, ◌∙◌}
 use Rattle.keeper.specs.Keeping.{after_change, is_refused}
-use Rattle.keeper.specs.Pending.{with_change}
+use Rattle.tail_journal.specs.Pending.{with_change}
 use Rattle.mboxrd.specs.Reading as mbox_reading
 use Rattle.follower.specs.Feed.{counted}
 use Rattle.follower.specs.Following.{Following}

@@ -12,7 +12,7 @@ use Rattle.indexes.proofs.indexes.Indexes.add_rows.Goals as goal
 pub returns-in_err-key-clause-cost : goal.returns-in_err-key-clause-cost
 returns-in_err-key-clause-cost g c =
     let m = c.args.mailbox.now.mailbox in
-    let rules = c.me-me.ensures.rules in
+    let rules = c.keeps_rules.ensures in
     let n = length c.loop-spot.yielded in
     let place = c.in-Some.spot.now in
     let here = next_mail m c.args.spots.now.keys c.requires.spots c.into_iter-spot-iterator.result c.loop-spot.spot-iterator c.next.new.self c.into_iter-spot-iterator.ensures.into_iter_gives.0 c.loop-spot.yielded c.loop-spot.yielded_by c.next.result c.in-Some.spot c.in-Some.is c.next.ensures.steps in
@@ -21,7 +21,7 @@ returns-in_err-key-clause-cost g c =
 pub add_row-requires-clause-there : goal.add_row-requires-clause-there
 add_row-requires-clause-there g c =
     let m = c.args.mailbox.now.mailbox in
-    let rules = c.me-me.ensures.rules in
+    let rules = c.keeps_rules.ensures in
     let n = length c.loop-spot.yielded in
     let place = c.in-Some.spot.now in
     let here = next_mail m c.args.spots.now.keys c.requires.spots c.into_iter-spot-iterator.result c.loop-spot.spot-iterator c.next.new.self c.into_iter-spot-iterator.ensures.into_iter_gives.0 c.loop-spot.yielded c.loop-spot.yielded_by c.next.result c.in-Some.spot c.in-Some.is c.next.ensures.steps in
@@ -30,7 +30,7 @@ add_row-requires-clause-there g c =
 pub add_row-requires-clause-room : goal.add_row-requires-clause-room
 add_row-requires-clause-room g c state kept =
     let m = c.args.mailbox.now.mailbox in
-    let rules = c.me-me.ensures.rules in
+    let rules = c.keeps_rules.ensures in
     let n = length c.loop-spot.yielded in
     let place = c.in-Some.spot.now in
     let here = next_mail m c.args.spots.now.keys c.requires.spots c.into_iter-spot-iterator.result c.loop-spot.spot-iterator c.next.new.self c.into_iter-spot-iterator.ensures.into_iter_gives.0 c.loop-spot.yielded c.loop-spot.yielded_by c.next.result c.in-Some.spot c.in-Some.is c.next.ensures.steps in
@@ -41,7 +41,7 @@ add_row-requires-clause-room g c state kept =
 pub loop-spot-preserved-in-Continue-branch-2 : goal.loop-spot-preserved-in-Continue-branch-2
 loop-spot-preserved-in-Continue-branch-2 g c =
     let m = c.args.mailbox.now.mailbox in
-    let rules = c.me-me.ensures.rules in
+    let rules = c.keeps_rules.ensures in
     let n = length c.loop-spot.yielded in
     let place = c.in-Some.spot.now in
     let here = next_mail m c.args.spots.now.keys c.requires.spots c.into_iter-spot-iterator.result c.loop-spot.spot-iterator c.next.new.self c.into_iter-spot-iterator.ensures.into_iter_gives.0 c.loop-spot.yielded c.loop-spot.yielded_by c.next.result c.in-Some.spot c.in-Some.is c.next.ensures.steps in
@@ -63,7 +63,7 @@ loop-spot-preserved-in-Continue-branch-2 g c =
 pub returns-in_err-add_row-clause-cost : goal.returns-in_err-add_row-clause-cost
 returns-in_err-add_row-clause-cost g c =
     let m = c.args.mailbox.now.mailbox in
-    let rules = c.me-me.ensures.rules in
+    let rules = c.keeps_rules.ensures in
     let n = length c.loop-spot.yielded in
     let place = c.in-Some.spot.now in
     let here = next_mail m c.args.spots.now.keys c.requires.spots c.into_iter-spot-iterator.result c.loop-spot.spot-iterator c.next.new.self c.into_iter-spot-iterator.ensures.into_iter_gives.0 c.loop-spot.yielded c.loop-spot.yielded_by c.next.result c.in-Some.spot c.in-Some.is c.next.ensures.steps in
@@ -74,7 +74,7 @@ returns-in_err-add_row-clause-cost g c =
 pub loop-spot-preserved : goal.loop-spot-preserved
 loop-spot-preserved g c =
     let m = c.args.mailbox.now.mailbox in
-    let rules = c.me-me.ensures.rules in
+    let rules = c.keeps_rules.ensures in
     let n = length c.loop-spot.yielded in
     let place = c.in-Some.spot.now in
     let here = next_mail m c.args.spots.now.keys c.requires.spots c.into_iter-spot-iterator.result c.loop-spot.spot-iterator c.next.new.self c.into_iter-spot-iterator.ensures.into_iter_gives.0 c.loop-spot.yielded c.loop-spot.yielded_by c.next.result c.in-Some.spot c.in-Some.is c.next.ensures.steps in

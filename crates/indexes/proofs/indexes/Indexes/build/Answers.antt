@@ -9,7 +9,7 @@ add_cards-requires-clause-none g c = c.new-indexes.ensures.cards c.args.mailbox.
 
 pub returns-in_err-add_cards-clause-cost : goal.returns-in_err-add_cards-clause-cost
 returns-in_err-add_cards-clause-cost g c =
-    omega (arith, c.in_err-add_cards.ensures.cost, c.in_ok-spots.ensures.cost, few_present c.args.mailbox.now.mailbox)
+    omega (arith, c.in_err-add_cards.ensures.cost, few_present c.args.mailbox.now.mailbox)
 
 pub add_rows-requires-clause-no_states : goal.add_rows-requires-clause-no_states
 add_rows-requires-clause-no_states g c key =
@@ -22,14 +22,14 @@ add_rows-requires-clause-no_deadlines g c uid =
 pub returns-in_err-add_rows-clause-cost : goal.returns-in_err-add_rows-clause-cost
 returns-in_err-add_rows-clause-cost g c =
     let m = c.args.mailbox.now.mailbox in
-    omega (arith, c.in_err-add_rows.ensures.cost, c.in_ok-add_cards.ensures.cost, c.in_ok-spots.ensures.cost, few_present m, few_contents m)
+    omega (arith, c.in_err-add_rows.ensures.cost, c.in_ok-add_cards.ensures.cost, few_present m, few_contents m)
 
 pub returns-in_err-indexes-clause-cost : goal.returns-in_err-indexes-clause-cost
 returns-in_err-indexes-clause-cost g c =
     let m = c.args.mailbox.now.mailbox in
-    omega (arith, c.in_ok-add_rows.ensures.cost, c.in_ok-add_cards.ensures.cost, c.in_ok-spots.ensures.cost, few_present m, few_contents m)
+    omega (arith, c.in_ok-add_rows.ensures.cost, c.in_ok-add_cards.ensures.cost, few_present m, few_contents m)
 
 pub returns-clause-cost : goal.returns-clause-cost
 returns-clause-cost g c =
     let m = c.args.mailbox.now.mailbox in
-    omega (arith, c.in_ok-add_rows.ensures.cost, c.in_ok-add_cards.ensures.cost, c.in_ok-spots.ensures.cost, few_present m, few_contents m)
+    omega (arith, c.in_ok-add_rows.ensures.cost, c.in_ok-add_cards.ensures.cost, few_present m, few_contents m)

@@ -18,7 +18,7 @@ last_row-requires-clause-there g c =
     let m = c.args.mailbox.now.mailbox in
     let key = c.args.key.now in
     let same = kept_state m c.args.self.now.chats c.requires.kept.chats key c.get.result c.unwrap-state.result c.get.ensures c.unwrap-state.ensures in
-    subst (λ s. IfSome s.last (λ spot. spot_at m spot.uid ≡ Some spot)) (sym same) (last_there m (chat_mails m key) (all_there m c.me.ensures.rules key))
+    subst (λ s. IfSome s.last (λ spot. spot_at m spot.uid ≡ Some spot)) (sym same) (last_there m (chat_mails m key) (all_there m c.keeps_rules.ensures key))
 
 pub returns-in_err-last-clause-cost : goal.returns-in_err-last-clause-cost
 returns-in_err-last-clause-cost g c =
@@ -34,7 +34,7 @@ returns-clause-row g c =
     let s = c.unwrap-state.result.now in
     let same = kept_state m c.args.self.now.chats c.requires.kept.chats key c.get.result c.unwrap-state.result c.get.ensures c.unwrap-state.ensures in
     let contact = option_copied c.contact_of.result in
-    let last = c.as_ref.ensures.value ∙ c.in_ok-last.ensures.row ∙ ap (λ s. option_and_then (row_there m) s.last) same ∙ last_row m (chat_mails m key) (all_there m c.me.ensures.rules key) in
+    let last = c.as_ref.ensures.value ∙ c.in_ok-last.ensures.row ∙ ap (λ s. option_and_then (row_there m) s.last) same ∙ last_row m (chat_mails m key) (all_there m c.keeps_rules.ensures key) in
     let made = row_is m key s same contact (λ addr is. c.contact_of.ensures addr is ∙ last_name_is c.args.self.now.contacts (present_cards m) addr c.requires.kept.cards.contacts) (option_copied c.as_ref.result) last in
     IfOk-weaker c.chat_row.result (λ row. row ≡ list_row_by s.key (name_by s.key s.roster (unwrap_or contact)) s.fresh (option_copied c.as_ref.result)) (λ row. row ≡ list_row m key) (λ row is. is ∙ made) c.chat_row.ensures
 

@@ -3,7 +3,7 @@ use Rattle.mailbox_model.specs.Mailbox.{Mailbox, after, full}
 use Rattle.state_store.specs.States.{State}
 use Rattle.touched_chats.specs.Costs.{change_cost}
 use Rattle.keeper.specs.Keeping.{Keeping, after_change}
-use Rattle.keeper.specs.Pending.{with_change}
+use Rattle.tail_journal.specs.Pending.{with_change}
 use Rattle.keeper.proofs.Keeping.{kept_more}
 use Rattle.keeper.proofs.keeper.Keeper.apply.Goals as goal
 

@@ -1,4 +1,0 @@
--- Laws of values in chunks.
-pub mod Joined
-mod Searched
-pub mod Steps

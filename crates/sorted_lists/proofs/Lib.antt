@@ -1,3 +1,0 @@
--- Lemmas.
-pub mod Searches
-pub mod ById
