@@ -20,8 +20,8 @@ FILES = ["box.mbox", "box.steps", "box.a", "box.b", "box.tail"]
 KEPT = FILES[2:]
 LONGEST = 20  # seconds
 LONGEST_TAIL = 8_388_608
-IMAGE = 85  # the bytes of a slot of the empty mailbox
-GROUP = 48  # the bytes of a group of one moment
+IMAGE = 149  # the bytes of a slot of the empty mailbox
+GROUP = 112  # the bytes of a group of one moment
 
 MAIL = b"""From -
 From: Bob <bob@x.org>

@@ -1,6 +1,6 @@
 -- The record of a card is read as it is spelled: one line for each field.
 use Rattle.std.proofs.Common.{◌≡◌, ℕ, suc, ◌-◌, ◌^◌, ◌<◌, ◌≤◌, Bool, true, false, cond, eqb, List, [], ◌∷◌, ◌++◌, length, Option, Some, None, Result, Ok, Err, refl, sym, ap, subst, ◌∙◌, append_assoc, arith, inl, inr}
-use Rattle.std.specs.Prelude.{⊤, not, ◌&&◌, ◌||◌, nat_le, nat_lt}
+use Rattle.std.specs.Prelude.{⊤, is_some, not, ◌&&◌, ◌||◌, nat_le, nat_lt}
 use Rattle.std.specs.Int.{w32, w64}
 use Rattle.std.specs.Cmp.Lexicographic.{nat_list_eq_equiv}
 use Rattle.std.specs.List.{concat, list_all, list_any}
@@ -16,7 +16,7 @@ use Rattle.lists.specs.Distinct.{are_distinct}
 use Rattle.card_type.specs.Effects.{is_among}
 use Rattle.card_type.specs.Groups.{is_group}
 use Rattle.card_type.specs.Records as records
-use Rattle.card_type.specs.Rules.{where_some, is_attachment, is_utf8_payload, is_nonempty_payload, is_utf8_update, is_nonempty_update, is_update, fits_weight, keeps_bounds, is_envelope, is_requests, is_shown, is_valid}
+use Rattle.card_type.specs.Rules.{where_some, is_attachment, is_utf8_payload, is_nonempty_payload, is_utf8_update, is_nonempty_update, is_update, is_short, fits_weight, keeps_bounds, is_envelope, is_requests, is_shown, is_valid}
 use Rattle.card_type.specs.declared.card.Attachment.{Attachment}
 use Rattle.card_type.specs.declared.card.Payload.{Payload}
 use Rattle.card_type.specs.declared.card.Payload.TheVariants.{Absent, Json, Hidden}
@@ -24,9 +24,10 @@ use Rattle.card_type.specs.declared.card.Update.{Update}
 use Rattle.card_type.specs.declared.card.Card.{Card}
 use Rattle.card_record.specs.declared.card.Envelope.{Envelope}
 use Rattle.card_record.specs.declared.card.Requests.{Requests}
+use Rattle.card_record.specs.declared.card.Said.{Said}
 use Rattle.card_record.specs.declared.card.Shown.{Shown}
 use Rattle.card_record.specs.Reading.{◌>>=◌, Read, number_at, block_of, moment_at, opt_of, list_of, is_text_within, new_addr, attachment_at, payload_at, update_at}
-use Rattle.card_record.specs.Cards.{envelope_at, requests_at, shown_at, later_at, fields_at, record_at, joined}
+use Rattle.card_record.specs.Cards.{envelope_at, requests_at, app_at, reaction_at, said_at, shown_at, later_at, fields_at, record_at, joined}
 use Rattle.card_record.specs.Spelling.{IsBytes}
 use Rattle.card_record.proofs.FieldLaws.{IsRead, IsPart, Each, IfThere, Takes, Takes-then, bind_ok, chosen, ok_is, then_field, all_fields, part_law, law_as, number_law, wide32, wide64, block_law, ruled_law, flag_law, flag_some, opt_law, list_law}
 
@@ -315,17 +316,125 @@ requests_part =
 requests_law : IsRead requests_spelled FitsRequests requests_at
 requests_law = part_law _ requests_spelled _ _ requests_part (λ r. refl) (λ r. longer (records.flag r.chat) _ (flag_some r.chat))
 
+-- ---- what is said to an app, and the reaction: the code of the app says whether the reaction stands
+
+abbrev app_spelled : Bool × Bool → List ℕ
+app_spelled a = records.b8 (records.app_code a.0 a.1)
+
+abbrev code_2 : ℕ → List ℕ → Read (Bool × Bool)
+code_2 n bytes = cond (eqb n 2) (Ok ((false, true), bytes)) (cond (eqb n 3) (Ok ((true, true), bytes)) (Err (suc (length bytes))))
+
+abbrev Coded : List ℕ → (Bool × Bool) × List ℕ → Type 0
+Coded bytes p = Takes bytes (app_spelled p.0) p.1
+
+app_takes : (bytes : List ℕ) (a : Bool × Bool) (rest : List ℕ) → IsBytes bytes → app_at bytes ≡ Ok (a, rest) → Coded bytes (a, rest)
+unfolding app_at
+app_takes [] a rest fits e = absurd cc
+app_takes (n ∷ bytes) a rest fits e =
+    let more = λ (i : ℕ). fits (suc i) in
+    let first = λ (k : ℕ) (is : eqb n k ≡ true). the_code n k bytes more is in
+    elim (chosen (eqb n 0) (done ((false, false), bytes)) (cond (eqb n 1) (done ((true, false), bytes)) (code_2 n bytes)) (done (a, rest)) e) [
+      | inl h ↦ subst (Coded (n ∷ bytes)) (ok_is ((false, false), bytes) (a, rest) h.1) (first 0 h.0)
+      | inr h ↦ elim (chosen (eqb n 1) (done ((true, false), bytes)) (code_2 n bytes) (done (a, rest)) h.1) [
+        | inl k ↦ subst (Coded (n ∷ bytes)) (ok_is ((true, false), bytes) (a, rest) k.1) (first 1 k.0)
+        | inr k ↦ elim (chosen (eqb n 2) (done ((false, true), bytes)) (cond (eqb n 3) (done ((true, true), bytes)) (Err (suc (length bytes)))) (done (a, rest)) k.1) [
+          | inl j ↦ subst (Coded (n ∷ bytes)) (ok_is ((false, true), bytes) (a, rest) j.1) (first 2 j.0)
+          | inr j ↦ elim (chosen (eqb n 3) (done ((true, true), bytes)) (Err (suc (length bytes))) (done (a, rest)) j.1) [
+            | inl i ↦ subst (Coded (n ∷ bytes)) (ok_is ((true, true), bytes) (a, rest) i.1) (first 3 i.0)
+            | inr i ↦ let wrong = i.1 in absurd cc
+          ]
+        ]
+      ]
+    ]
+  where
+    the_code : (n k : ℕ) (bytes : List ℕ) → IsBytes bytes → eqb n k ≡ true → Takes (n ∷ bytes) (k ∷ []) bytes
+    the_code n k bytes more is = record { parts = ap (λ (b : ℕ). b ∷ bytes) (eqb-true n k is); rest_fits = more }
+
+app_again : (app reaction : Bool) (rest : List ℕ) → app_at (app_spelled (app, reaction) ++ rest) ≡ Ok ((app, reaction), rest)
+unfolding app_at
+app_again false false rest = refl
+app_again true false rest = refl
+app_again false true rest = refl
+app_again true true rest = refl
+
+abbrev is_reaction : List ℕ → Bool
+is_reaction text = is_text_within 0 255 text
+
+abbrev Reacted : Bool → List ℕ → Option (List ℕ) × List ℕ → Type 0
+Reacted stands bytes p = Takes bytes (records.reaction p.0) p.1 × ((where_some is_reaction p.0 ≡ true) × (is_some p.0 ≡ stands))
+
+reaction_takes : (stands : Bool) (bytes : List ℕ) (o : Option (List ℕ)) (rest : List ℕ) → IsBytes bytes → reaction_at stands bytes ≡ Ok (o, rest) → Reacted stands bytes (o, rest)
+reaction_takes false bytes o rest fits e = subst (Reacted false bytes) (ok_is (None, bytes) (o, rest) e) (record { parts = refl; rest_fits = fits }, (refl, refl))
+reaction_takes true bytes o rest fits e =
+    let b = bind_ok (block_of is_reaction bytes) (λ text. done (Some text.0, text.1)) (o, rest) e in
+    let t = (block_law is_reaction).takes bytes b.0.0 b.0.1 fits b.1 in
+    subst (Reacted true bytes) (ok_is (Some b.0.0, b.0.1) (o, rest) b.2) (t.0, (t.1, refl))
+
+reaction_again : (o : Option (List ℕ)) (rest : List ℕ) → where_some is_reaction o ≡ true → length (records.reaction o) < 2 ^ 32
+    → reaction_at (is_some o) (records.reaction o ++ rest) ≡ Ok (o, rest)
+reaction_again None rest h small = refl
+reaction_again (Some text) rest h small = rw ((block_law is_reaction).again text rest h small) refl
+
+updates_law : IsRead (records.list records.update) (λ us. list_all is_update us ≡ true) (list_of (λ _. update_at))
+updates_law = values_law is_update records.update update_at update_law
+
+abbrev said_parts : Said → List ℕ
+said_parts s = app_spelled (s.app, is_some s.reaction) ++ (records.list records.update s.updates ++ records.reaction s.reaction)
+
+abbrev said_spelled : Said → List ℕ
+said_spelled s = app_spelled (s.app, is_some s.reaction) ++ (records.list records.update s.updates ++ (records.reaction s.reaction ++ []))
+
+abbrev FitsSaid : Said → Type 0
+FitsSaid s = (list_all is_update s.updates ≡ true) × (where_some is_reaction s.reaction ≡ true)
+
+said_takes : (bytes : List ℕ) (s : Said) (rest : List ℕ) → IsBytes bytes → said_at bytes ≡ Ok (s, rest) → Takes bytes (said_parts s) rest × FitsSaid s
+unfolding said_at
+said_takes bytes s rest fits e =
+    let a = bind_ok (app_at bytes) _ (s, rest) e in
+    let b = bind_ok (list_of (λ _. update_at) a.0.1) _ (s, rest) a.2 in
+    let c = bind_ok (reaction_at a.0.0.1 b.0.1) _ (s, rest) b.2 in
+    let p : Takes bytes (app_spelled a.0.0) a.0.1 = app_takes bytes a.0.0 a.0.1 fits a.1 in
+    let q = updates_law.takes a.0.1 b.0.0 b.0.1 p.rest_fits b.1 in
+    let r = reaction_takes a.0.0.1 b.0.1 c.0.0 c.0.1 q.0.rest_fits c.1 in
+    let named : Takes bytes (app_spelled (a.0.0.0, is_some c.0.0)) a.0.1 = subst (λ (stands : Bool). Takes bytes (app_spelled (a.0.0.0, stands)) a.0.1) (sym r.1.1) p in
+    let last = Takes-then a.0.1 (records.list records.update b.0.0) b.0.1 (records.reaction c.0.0) c.0.1 q.0 r.0 in
+    let all = Takes-then bytes (app_spelled (a.0.0.0, is_some c.0.0)) a.0.1 (records.list records.update b.0.0 ++ records.reaction c.0.0) c.0.1 named last in
+    let read : Said = record { app = a.0.0.0; updates = b.0.0; reaction = c.0.0 } in
+    subst (λ (x : Said × List ℕ). Takes bytes (said_parts x.0) x.1 × FitsSaid x.0) (ok_is (read, c.0.1) (s, rest) c.2) (all, (q.1, r.1.0))
+
+said_again : (s : Said) (rest : List ℕ) → FitsSaid s → length (said_parts s) < 2 ^ 32 → said_at (said_parts s ++ rest) ≡ Ok (s, rest)
+unfolding said_at
+said_again s rest fits small =
+    let code = app_spelled (s.app, is_some s.reaction) in
+    let updates = records.list records.update s.updates in
+    let reaction = records.reaction s.reaction in
+    let len = length-append updates reaction in
+    let one = app_again s.app (is_some s.reaction) (updates ++ (reaction ++ rest)) in
+    let two = updates_law.again s.updates (reaction ++ rest) fits.0 (omega (arith, small, len)) in
+    let three = reaction_again s.reaction rest fits.1 (omega (arith, small, len)) in
+    ap (λ (t : List ℕ). said_at (code ++ t)) (append_assoc updates reaction rest) ∙ rw (one, two, three) refl
+
+said_law : IsRead said_spelled FitsSaid said_at
+said_law = law_as said_parts said_spelled FitsSaid FitsSaid said_at (record { some = λ s. omega arith; takes = said_takes; again = said_again })
+    (λ s. ap (λ (t : List ℕ). app_spelled (s.app, is_some s.reaction) ++ (records.list records.update s.updates ++ t)) (sym (append-nil (records.reaction s.reaction))))
+    (λ s f. f) (λ s f small. f)
+
+abbrev shown_parts : Shown → List ℕ
+shown_parts s =
+    records.block s.subject ++ (records.block s.text ++ (records.flag s.cut ++ (records.list records.attachment s.attachments ++ (records.opt records.block s.receipt
+    ++ (said_spelled s.said ++ [])))))
+
 abbrev shown_spelled : Shown → List ℕ
 shown_spelled s =
     records.block s.subject ++ (records.block s.text ++ (records.flag s.cut ++ (records.list records.attachment s.attachments ++ (records.opt records.block s.receipt
-    ++ (records.flag s.app ++ (records.list records.update s.updates ++ []))))))
+    ++ said_spelled s.said))))
 
 abbrev FitsShown : Shown → Type 0
 FitsShown s =
     (is_utf8 s.subject ≡ true) × ((is_text_within 0 32768 s.text ≡ true) × (⊤ × ((list_all is_attachment s.attachments ≡ true) × ((where_some is_id s.receipt ≡ true)
-    × (⊤ × ((list_all is_update s.updates ≡ true) × ⊤))))))
+    × (FitsSaid s.said × ⊤)))))
 
-shown_part : IsPart (λ (s : Shown). ⊤) shown_spelled FitsShown shown_at
+shown_part : IsPart (λ (s : Shown). ⊤) shown_parts FitsShown shown_at
 unfolding shown_at
 shown_part =
     then_field _ _ _ (block_law is_utf8) (λ s. s.subject) _ _ _ _ (λ subject.
@@ -333,14 +442,16 @@ shown_part =
     then_field _ _ _ flag_law (λ s. s.cut) _ _ _ _ (λ cut.
     then_field _ _ _ (values_law is_attachment records.attachment attachment_at attachment_law) (λ s. s.attachments) _ _ _ _ (λ attachments.
     then_field _ _ _ id_opt_law (λ s. s.receipt) _ _ _ _ (λ receipt.
-    then_field _ _ _ flag_law (λ s. s.app) _ _ _ _ (λ app.
-    then_field _ _ _ (values_law is_update records.update update_at update_law) (λ s. s.updates) _ _ _ _ (λ updates.
-    all_fields _ (record { subject = subject; text = text; cut = cut; attachments = attachments; receipt = receipt; app = app; updates = updates })
-    (((((((tt, refl), refl), refl), refl), refl), refl), refl)
-    (λ y k i. record { subject = k.0.0.0.0.0.0.1 i; text = k.0.0.0.0.0.1 i; cut = k.0.0.0.0.1 i; attachments = k.0.0.0.1 i; receipt = k.0.0.1 i; app = k.0.1 i; updates = k.1 i }))))))))
+    then_field _ _ _ said_law (λ s. s.said) _ _ _ _ (λ said.
+    all_fields _ (record { subject = subject; text = text; cut = cut; attachments = attachments; receipt = receipt; said = said })
+    ((((((tt, refl), refl), refl), refl), refl), refl)
+    (λ y k i. record { subject = k.0.0.0.0.0.1 i; text = k.0.0.0.0.1 i; cut = k.0.0.0.1 i; attachments = k.0.0.1 i; receipt = k.0.1 i; said = k.1 i })))))))
 
 shown_law : IsRead shown_spelled FitsShown shown_at
-shown_law = part_law _ shown_spelled _ _ shown_part (λ s. refl) (λ s. omega arith)
+shown_law = part_law _ shown_spelled _ _ shown_part
+    (λ s. ap (λ (t : List ℕ). records.block s.subject ++ (records.block s.text ++ (records.flag s.cut ++ (records.list records.attachment s.attachments ++ (records.opt records.block s.receipt ++ t)))))
+    (append-nil (said_spelled s.said)))
+    (λ s. omega arith)
 
 -- ---- the whole card
 
@@ -351,7 +462,7 @@ abbrev requests_in : Card → Requests
 requests_in c = record { chat = c.chat; group = c.group; group_name = c.group_name; added = c.added; removed = c.removed; renamed = c.renamed; edit = c.edit; deletes = c.deletes; timer = c.timer }
 
 abbrev shown_in : Card → Shown
-shown_in c = record { subject = c.subject; text = c.text; cut = c.cut; attachments = c.attachments; receipt = c.receipt; app = c.app; updates = c.updates }
+shown_in c = record { subject = c.subject; text = c.text; cut = c.cut; attachments = c.attachments; receipt = c.receipt; said = record { app = c.app; updates = c.updates; reaction = c.reaction } }
 
 abbrev later_spelled : Requests × Shown → List ℕ
 later_spelled l = requests_spelled l.0 ++ (shown_spelled l.1 ++ [])
@@ -416,42 +527,53 @@ and_7 a b c d e f g p q r s t u v = and_from _ _ (and_6 a b c d e f p q r s t u)
 is_number : (n : ℕ) → n < 2 ^ 32 → nat_lt n (2 ^ 32) ≡ true
 is_number n lt = grind (arith, nat_tests)
 
+none_less : (n : ℕ) → nat_le 0 n ≡ true
+none_less n = le-leb 0 n (omega arith)
+
+reaction_valid : (o : Option (List ℕ)) → where_some is_reaction o ≡ true → (where_some is_utf8 o ≡ true) × (where_some is_short o ≡ true)
+reaction_valid None h = (refl, refl)
+reaction_valid (Some text) h =
+    let p = and_parts (is_utf8 text && nat_le 0 (length text)) (nat_le (length text) 255) h in
+    ((and_parts (is_utf8 text) (nat_le 0 (length text)) p.0).0, p.1)
+
+valid_reaction : (o : Option (List ℕ)) → where_some is_utf8 o ≡ true → where_some is_short o ≡ true → where_some is_reaction o ≡ true
+valid_reaction None utf8 short = refl
+valid_reaction (Some text) utf8 short = and_from _ _ (and_from _ _ utf8 (none_less (length text))) short
+
 fits_valid : (c : Card) → FitsFields c → fits_weight c ≡ true → is_valid c ≡ true
 fits_valid c f light =
     let e = f.0 in
     let r = f.1.0.0 in
     let s = f.1.0.1.0 in
     let text = and_parts _ _ s.1.0 in
-    let updates = and-list_all is_utf8_update is_nonempty_update c.updates s.1.1.1.1.1.1.0 in
+    let updates = and-list_all is_utf8_update is_nonempty_update c.updates s.1.1.1.1.1.0.0 in
+    let reaction = reaction_valid c.reaction s.1.1.1.1.1.0.1 in
     let to = e.1.1.1.0 in
     let cc_list = e.1.1.1.1.0 in
     let refs = e.1.1.1.1.1.1 in
-    let bounds : keeps_bounds c ≡ true = and_6 _ _ _ _ _ _ light e.1.1.1.1.1.0 text.1 updates.1 to.1 cc_list.1 in
+    let bounds : keeps_bounds c ≡ true = and_7 _ _ _ _ _ _ _ light e.1.1.1.1.1.0 text.1 reaction.1 updates.1 to.1 cc_list.1 in
     let envelope : is_envelope c ≡ true = and_7 _ _ _ _ _ _ _ e.0 e.1.0 e.1.1.0 to.0 cc_list.0 refs.0 refs.1.0 in
     let asks = r.1.1.1.1.1.1 in
     let requests : is_requests c ≡ true = and_7 _ _ _ _ _ _ _ r.1.0 r.1.1.0 r.1.1.1.0 r.1.1.1.1.0 asks.0 asks.1.0 (is_number c.timer asks.1.1.0) in
-    let shown : is_shown c ≡ true = and_5 _ _ _ _ _ s.0 (and_parts _ _ text.0).0 s.1.1.1.0 s.1.1.1.1.0 updates.0 in
+    let shown : is_shown c ≡ true = and_6 _ _ _ _ _ _ s.0 (and_parts _ _ text.0).0 s.1.1.1.0 s.1.1.1.1.0 updates.0 reaction.0 in
     and_4 _ _ _ _ bounds envelope requests shown
-
-none_less : (n : ℕ) → nat_le 0 n ≡ true
-none_less n = le-leb 0 n (omega arith)
 
 valid_fits : (c : Card) → is_valid c ≡ true → FitsFields c × (fits_weight c ≡ true)
 valid_fits c h =
     let h3 = and_parts _ (is_shown c) h in
     let h2 = and_parts _ (is_requests c) h3.0 in
     let h1 = and_parts (keeps_bounds c) (is_envelope c) h2.0 in
-    let b5 = and_parts _ _ h1.0 in let b4 = and_parts _ _ b5.0 in let b3 = and_parts _ _ b4.0 in let b2 = and_parts _ _ b3.0 in let b1 = and_parts _ _ b2.0 in
+    let b6 = and_parts _ _ h1.0 in let b5 = and_parts _ _ b6.0 in let b4 = and_parts _ _ b5.0 in let b3 = and_parts _ _ b4.0 in let b2 = and_parts _ _ b3.0 in let b1 = and_parts _ _ b2.0 in
     let e6 = and_parts _ _ h1.1 in let e5 = and_parts _ _ e6.0 in let e4 = and_parts _ _ e5.0 in let e3 = and_parts _ _ e4.0 in let e2 = and_parts _ _ e3.0 in let e1 = and_parts _ _ e2.0 in
     let r6 = and_parts _ _ h2.1 in let r5 = and_parts _ _ r6.0 in let r4 = and_parts _ _ r5.0 in let r3 = and_parts _ _ r4.0 in let r2 = and_parts _ _ r3.0 in let r1 = and_parts _ _ r2.0 in
-    let s4 = and_parts _ _ h3.1 in let s3 = and_parts _ _ s4.0 in let s2 = and_parts _ _ s3.0 in let s1 = and_parts _ _ s2.0 in
+    let s5 = and_parts _ _ h3.1 in let s4 = and_parts _ _ s5.0 in let s3 = and_parts _ _ s4.0 in let s2 = and_parts _ _ s3.0 in let s1 = and_parts _ _ s2.0 in
     let text : is_text_within 0 32768 c.text ≡ true = and_from _ _ (and_from _ _ s1.1 (none_less (length c.text))) b2.1 in (
       (
-        (e1.0, (e1.1, (e2.1, ((e3.1, b4.1), ((e4.1, b5.1), (b1.1, (e5.1, (e6.1, tt)))))))),
+        (e1.0, (e1.1, (e2.1, ((e3.1, b5.1), ((e4.1, b6.1), (b1.1, (e5.1, (e6.1, tt)))))))),
         (
           (
             (tt, (r1.0, (r1.1, (r2.1, (r3.1, (tt, (r4.1, (r5.1, (is_below c.timer (2 ^ 32) r6.1, tt))))))))),
-            ((s1.0, (text, (tt, (s2.1, (s3.1, (tt, (list_all-and is_utf8_update is_nonempty_update c.updates s4.1 b3.1, tt))))))), tt),
+            ((s1.0, (text, (tt, (s2.1, (s3.1, ((list_all-and is_utf8_update is_nonempty_update c.updates s4.1 b4.1, valid_reaction c.reaction s5.1 b3.1), tt)))))), tt),
           ),
           tt,
         ),

@@ -8,7 +8,7 @@ use Rattle.std.proofs.lemmas.List.{take_at, drop_at, take-append-drop, length-ap
 use Rattle.std.proofs.lemmas.List.Concat.{flat_map-cons}
 use Rattle.std.proofs.lemmas.Nat.{be_bytes_4, be_bytes_8, from_be_bytes-to_be_bytes_4, from_be_bytes-to_be_bytes_8}
 use Rattle.card_type.specs.Records as records
-use Rattle.card_record.specs.Reading.{◌>>=◌, Read, number_at, ruled, block_at, block_of, flag_at, opt_of, times_of, list_of}
+use Rattle.card_record.specs.Reading.{◌>>=◌, Read, number_at, ruled, block_at, block_of, flag_at, opt_of, run_at, times_of, list_of}
 use Rattle.card_record.specs.Spelling.{IsBytes}
 
 pub IsBytes-drop : (n : ℕ) (bytes : List ℕ) → IsBytes bytes → IsBytes (drop n bytes)
@@ -103,6 +103,23 @@ number_law w limit wide = record {
   takes = λ bytes n rest fits e. number_takes w limit wide bytes n rest fits e;
   again = λ n rest lt small. number_again w limit wide n rest lt;
 }
+
+-- ---- runs of bytes
+
+pub run_takes : (n : ℕ) (bytes text rest : List ℕ) → IsBytes bytes → run_at n bytes ≡ Ok (text, rest) → Takes bytes text rest × (length text ≡ n)
+run_takes n bytes text rest fits e =
+    let g = guard_ok (ltb (length bytes) n) (length bytes) (take n bytes, drop n bytes) (text, rest) e in
+    let long : n ≤ length bytes = ltb-false _ _ g.0 in
+    let parts : Takes bytes (take n bytes) (drop n bytes) × (length (take n bytes) ≡ n) = (
+      record { parts = sym (take-append-drop n bytes); rest_fits = IsBytes-drop n bytes fits },
+      omega (arith, length-take n bytes),
+    ) in
+    subst (λ (p : List ℕ × List ℕ). Takes bytes p.0 p.1 × (length p.0 ≡ n)) g.1 parts
+
+pub run_again : (n : ℕ) (text rest : List ℕ) → length text ≡ n → run_at n (text ++ rest) ≡ Ok (text, rest)
+run_again n text rest len =
+    let long : ltb (length (text ++ rest)) n ≡ false = le-ltb _ _ (omega (arith, len, length-append text rest)) in
+    rw (long, take_at text rest n len, drop_at text rest n len) refl
 
 -- ---- blocks
 

@@ -1,5 +1,5 @@
 -- Reading the record of a card.
-use Rattle.std.specs.Prelude.{ℕ, List, length, Ok, Err, if◌then◌else◌}
+use Rattle.std.specs.Prelude.{ℕ, Bool, true, false, List, length, Option, None, Some, Ok, Err, if◌then◌else◌, ◌==◌}
 use Rattle.std.specs.Int.{w32}
 use Rattle.std.specs.Str.{is_utf8}
 use Rattle.kit.specs.Addresses.{is_addr}
@@ -9,8 +9,9 @@ use Rattle.card_type.specs.Rules.{fits_weight}
 use Rattle.card_type.specs.declared.card.Card.{Card}
 use Rattle.card_record.specs.declared.card.Envelope.{Envelope}
 use Rattle.card_record.specs.declared.card.Requests.{Requests}
+use Rattle.card_record.specs.declared.card.Said.{Said}
 use Rattle.card_record.specs.declared.card.Shown.{Shown}
-use Rattle.card_record.specs.Reading.{◌>>=◌, Read, number_at, block_of, moment_at, flag_at, opt_of, list_of, new_addr, is_text_within, attachment_at, update_at}
+use Rattle.card_record.specs.Reading.{◌>>=◌, Read, byte_at, number_at, block_of, moment_at, flag_at, opt_of, list_of, new_addr, is_text_within, attachment_at, update_at}
 
 unfoldable pub envelope_at : List ℕ → Read Envelope
 envelope_at bytes = do
@@ -37,6 +38,27 @@ requests_at bytes = do
   timer ← number_at w32 deletes.1
   Ok (record { chat = chat.0; group = group.0; group_name = group_name.0; added = added.0; removed = removed.0; renamed = renamed.0; edit = edit.0; deletes = deletes.0; timer = timer.0 }, timer.1)
 
+-- whether there is an app, and whether a reaction stands at the end
+unfoldable pub app_at : List ℕ → Read (Bool × Bool)
+app_at bytes = do
+  n ← byte_at bytes
+  if n.0 == 0 then Ok ((false, false), n.1)
+      else if n.0 == 1 then Ok ((true, false), n.1)
+      else if n.0 == 2 then Ok ((false, true), n.1)
+      else if n.0 == 3 then Ok ((true, true), n.1)
+      else Err (length bytes)
+
+abbrev pub reaction_at : Bool → List ℕ → Read (Option (List ℕ))
+reaction_at false bytes = Ok (None, bytes)
+reaction_at true bytes = block_of (is_text_within 0 255) bytes >>= λ text. Ok (Some text.0, text.1)
+
+unfoldable pub said_at : List ℕ → Read Said
+said_at bytes = do
+  app ← app_at bytes
+  updates ← list_of (λ _. update_at) app.1
+  reaction ← reaction_at app.0.1 updates.1
+  Ok (record { app = app.0.0; updates = updates.0; reaction = reaction.0 }, reaction.1)
+
 unfoldable pub shown_at : List ℕ → Read Shown
 shown_at bytes = do
   subject ← block_of is_utf8 bytes
@@ -44,9 +66,8 @@ shown_at bytes = do
   cut ← flag_at text.1
   attachments ← list_of (λ _. attachment_at) cut.1
   receipt ← opt_of (block_of is_id) attachments.1
-  app ← flag_at receipt.1
-  updates ← list_of (λ _. update_at) app.1
-  Ok (record { subject = subject.0; text = text.0; cut = cut.0; attachments = attachments.0; receipt = receipt.0; app = app.0; updates = updates.0 }, updates.1)
+  said ← said_at receipt.1
+  Ok (record { subject = subject.0; text = text.0; cut = cut.0; attachments = attachments.0; receipt = receipt.0; said = said.0 }, said.1)
 
 abbrev pub joined : Envelope → Requests → Shown → Card
 joined e r s =
@@ -73,8 +94,9 @@ joined e r s =
       cut = s.cut;
       attachments = s.attachments;
       receipt = s.receipt;
-      app = s.app;
-      updates = s.updates;
+      app = s.said.app;
+      updates = s.said.updates;
+      reaction = s.said.reaction;
     }
 
 unfoldable pub later_at : List ℕ → Read (Requests × Shown)

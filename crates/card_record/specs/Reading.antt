@@ -48,6 +48,10 @@ number_at w bytes = if nat_lt (length bytes) (byte_len w) then Err (length bytes
 abbrev pub ruled : {X : Type 0} → (X → Bool) → (List ℕ → Read X) → List ℕ → Read X
 ruled rule read bytes = read bytes >>= λ x. if rule x.0 then Ok x else Err (length bytes)
 
+-- a run of so many bytes
+abbrev pub run_at : ℕ → List ℕ → Read (List ℕ)
+run_at n bytes = if nat_lt (length bytes) n then Err (length bytes) else Ok (take n bytes, drop n bytes)
+
 -- bytes after their number are one field
 unfoldable pub block_at : List ℕ → Read (List ℕ)
 block_at bytes = do

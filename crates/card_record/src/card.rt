@@ -3,13 +3,13 @@ ghost use Rattle.std.specs.Prelude.{◌≡◌, ◌++◌, IfOk, IsTrue};
 ghost use Rattle.card_type.specs.Records.{record_of};
 ghost use Rattle.card_type.specs.Rules.{is_valid};
 ghost use Rattle.card_record.specs.Reading.{Moves};
-ghost use Rattle.card_record.specs.Cards.{envelope_at, requests_at, shown_at, later_at, fields_at, record_at, joined};
+ghost use Rattle.card_record.specs.Cards.{envelope_at, requests_at, app_at, reaction_at, said_at, shown_at, later_at, fields_at, record_at, joined};
 
 use crate::fault::ReadFault;
 use crate::field::{Field, read_flag, read_opt, read_opt_moment, read_text_within};
 use crate::rest::Rest;
 use crate::values::{read_addrs, read_list};
-use card_type::{Attachment, Card, GroupId, MAX_TEXT_LEN, Update, fits_weight};
+use card_type::{Attachment, Card, GroupId, MAX_REACTION_LEN, MAX_TEXT_LEN, Update, fits_weight};
 use kit::{Addr, Id, Text};
 use lists::Items;
 use std::alloc::Global;
@@ -43,6 +43,14 @@ struct Requests {
     timer: u32,
 }
 
+/// What is said to an app, and the reaction.
+#[derive(Drop)]
+struct Said {
+    app: bool,
+    updates: Items<Update>,
+    reaction: Option<Text>,
+}
+
 /// What is shown, and what is said to other programs.
 #[derive(Drop)]
 struct Shown {
@@ -51,8 +59,7 @@ struct Shown {
     cut: bool,
     attachments: Items<Attachment>,
     receipt: Option<Id>,
-    app: bool,
-    updates: Items<Update>,
+    said: Said,
 }
 
 #[tactic(auto, unfolding(crate::specs::Cards::envelope_at))]
@@ -105,6 +112,49 @@ fn read_requests(alloc: Global, rest: &mut Rest<'_>) -> Result<Requests, ReadFau
     })
 }
 
+/// Takes a code of one byte: whether there is an app, and whether a reaction stands at the end.
+#[tactic(auto, unfolding(crate::specs::Cards::app_at))]
+fn read_app(rest: &mut Rest<'_>) -> Result<(bool, bool), ReadFault>
+    ensures { Moves (λ x. x) result (app_at rest.old) rest.new }
+{
+    let left = rest.len();
+    match rest.b8()? {
+        0 => Ok((false, false)),
+        1 => Ok((true, false)),
+        2 => Ok((false, true)),
+        3 => Ok((true, true)),
+        _ => Err(ReadFault::Malformed(left)),
+    }
+}
+
+/// Takes a reaction where one stands, and else nothing.
+fn read_reaction(
+    alloc: Global,
+    stands: bool,
+    rest: &mut Rest<'_>,
+) -> Result<Option<Text>, ReadFault>
+    ensures { Moves (λ x. x) result (reaction_at stands rest.old) rest.new }
+{
+    if !stands {
+        return Ok(None);
+    }
+    Ok(Some(read_text_within(alloc, 0, MAX_REACTION_LEN, rest)?))
+}
+
+#[tactic(auto, unfolding(crate::specs::Cards::said_at))]
+fn read_said(alloc: Global, rest: &mut Rest<'_>) -> Result<Said, ReadFault>
+    ensures { Moves (λ x. x) result (said_at rest.old) rest.new }
+{
+    let (app, stands) = read_app(rest)?;
+    let updates = read_list::<Update>(alloc, rest)?;
+    let reaction = read_reaction(alloc, stands, rest)?;
+    Ok(Said {
+        app,
+        updates,
+        reaction,
+    })
+}
+
 #[tactic(auto, unfolding(crate::specs::Cards::shown_at))]
 fn read_shown(alloc: Global, rest: &mut Rest<'_>) -> Result<Shown, ReadFault>
     ensures { Moves (λ x. x) result (shown_at rest.old) rest.new }
@@ -114,16 +164,14 @@ fn read_shown(alloc: Global, rest: &mut Rest<'_>) -> Result<Shown, ReadFault>
     let cut = read_flag(rest)?;
     let attachments = read_list::<Attachment>(alloc, rest)?;
     let receipt = read_opt::<Id>(alloc, rest)?;
-    let app = read_flag(rest)?;
-    let updates = read_list::<Update>(alloc, rest)?;
+    let said = read_said(alloc, rest)?;
     Ok(Shown {
         subject,
         text,
         cut,
         attachments,
         receipt,
-        app,
-        updates,
+        said,
     })
 }
 
@@ -131,6 +179,7 @@ fn read_shown(alloc: Global, rest: &mut Rest<'_>) -> Result<Shown, ReadFault>
 fn joined(envelope: Envelope, requests: Requests, shown: Shown) -> Card
     ensures { result ≡ joined envelope requests shown }
 {
+    let said = shown.said;
     Card {
         id: envelope.id,
         from: envelope.from,
@@ -154,8 +203,9 @@ fn joined(envelope: Envelope, requests: Requests, shown: Shown) -> Card
         cut: shown.cut,
         attachments: shown.attachments,
         receipt: shown.receipt,
-        app: shown.app,
-        updates: shown.updates,
+        app: said.app,
+        updates: said.updates,
+        reaction: said.reaction,
     }
 }
 

@@ -1,7 +1,7 @@
 //! Bytes that are read from the left.
-ghost use Rattle.std.specs.Prelude.{◌≡◌, ◌≤◌, List, ℕ, length, take, drop};
+ghost use Rattle.std.specs.Prelude.{◌≡◌, ◌≤◌, List, ℕ, length, take, drop, IfOk};
 ghost use Rattle.std.specs.Int.{w16, w32, w64};
-ghost use Rattle.card_record.specs.Reading.{Moves, byte_at, number_at, block_at};
+ghost use Rattle.card_record.specs.Reading.{Moves, byte_at, number_at, block_at, run_at};
 ghost use Rattle.card_record.specs.Spelling.{IsBytes};
 
 use crate::fault::ReadFault;
@@ -96,6 +96,18 @@ impl<'a> Rest<'a> {
         Ok(u64::from_be_bytes([
             front[0], front[1], front[2], front[3], front[4], front[5], front[6], front[7],
         ]))
+    }
+
+    /// A run of so many bytes.
+    pub fn run(&mut self, count: usize) -> Result<&'a [u8], ReadFault>
+        ensures moves { Moves (λ run. run.now) result (run_at count self.old) self.new }
+        ensures len { IfOk result (λ run. length run.now ≡ count) }
+    {
+        let left = self.bytes.len();
+        if left < count {
+            return Err(ReadFault::Malformed(left));
+        }
+        Ok(self.front(count))
     }
 
     /// Bytes, after their number in four bytes.

@@ -1,5 +1,5 @@
 //! The record of a card, written.
-ghost use Rattle.std.specs.Prelude.{◌≡◌, ◌++◌, ℕ, List, OnOk, flat_map};
+ghost use Rattle.std.specs.Prelude.{◌≡◌, ◌++◌, ℕ, List, OnOk, flat_map, is_some};
 ghost use Rattle.std.specs.List.{concat};
 ghost use Rattle.card_type.specs.Records as records;
 
@@ -199,6 +199,35 @@ fn write_requests(out: &mut Vec<u8>, card: &Card) -> Result<(), Memory>
     Ok(())
 }
 
+/// The code that says whether there is an app, and whether a reaction stands at the end.
+fn app_code(app: bool, reaction: bool) -> u8
+    ensures { result ≡ records.app_code app reaction }
+{
+    match (app, reaction) {
+        (false, false) => 0,
+        (true, false) => 1,
+        (false, true) => 2,
+        (true, true) => 3,
+    }
+}
+
+/// Appends that code.
+fn write_code(out: &mut Vec<u8>, card: &Card) -> Result<(), Memory>
+    ensures { OnOk result (out.new.items ≡ out.old.items ++ records.b8 (records.app_code card.now.app (is_some card.now.reaction))) }
+{
+    write_b8(out, app_code(card.app, card.reaction.is_some()))
+}
+
+/// Appends a reaction where there is one, and else nothing.
+fn write_reaction(out: &mut Vec<u8>, reaction: &Option<Text>) -> Result<(), Memory>
+    ensures { OnOk result (out.new.items ≡ out.old.items ++ records.reaction reaction.now) }
+{
+    match reaction {
+        Some(text) => text.write(out),
+        None => Ok(()),
+    }
+}
+
 fn write_shown(out: &mut Vec<u8>, card: &Card) -> Result<(), Memory>
     ensures { OnOk result (out.new.items ≡ out.old.items ++ concat (records.shown card.now)) }
 {
@@ -207,8 +236,10 @@ fn write_shown(out: &mut Vec<u8>, card: &Card) -> Result<(), Memory>
     card.cut.write(out)?;
     card.attachments.write(out)?;
     card.receipt.write(out)?;
-    card.app.write(out)?;
-    card.updates.write(out)
+    write_code(out, card)?;
+    card.updates.write(out)?;
+    write_reaction(out, &card.reaction)?;
+    Ok(())
 }
 
 /// Appends the record of a card. Takes memory; `Err` only when it runs out, and then nothing is promised of the bytes.

@@ -2,5 +2,6 @@
 pub mod KeyBytes
 pub mod Orders
 pub mod Weights
+mod Plain
 pub mod WorkedCards
 mod Rows

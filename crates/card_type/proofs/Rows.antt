@@ -52,6 +52,10 @@ record_m1 : record_of M1 ≡
     ++ replicate 4 0 ++ (0 ∷ 0 ∷ 0 ∷ 2 ∷ codes "Hi") ++ replicate 11 0
 record_m1 = refl
 
+-- a code of 2 and a block of 4 bytes more, which is U+1F44D
+weight_of_a_reaction : weight (record M1 { reaction = Some (240 ∷ 159 ∷ 145 ∷ 141 ∷ []) }) ≡ 116
+weight_of_a_reaction = refl
+
 weight_of_an_update : weight (move_by bob) ≡ 111
 weight_of_an_update = refl
 

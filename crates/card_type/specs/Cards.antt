@@ -30,4 +30,5 @@ card_of id from =
       receipt = None;
       app = false;
       updates = [];
+      reaction = None;
     }

@@ -1,6 +1,6 @@
 -- The record of a card: its fields one after the other, in one spelling for each value. Numbers are big-endian, the
 -- highest byte first.
-use Rattle.std.specs.Prelude.{ℕ, ◌-◌, ◌^◌, min, Bool, true, false, List, [], ◌∷◌, ◌++◌, length, Option, Some, None}
+use Rattle.std.specs.Prelude.{ℕ, ◌-◌, ◌^◌, min, Bool, true, false, List, [], ◌∷◌, ◌++◌, length, Option, Some, None, is_some}
 use Rattle.std.specs.Int.{w32, w64, to_be_bytes}
 use Rattle.std.specs.List.{concat, flat_map}
 use Rattle.card_type.specs.declared.card.Attachment.{Attachment}
@@ -47,6 +47,18 @@ payload Hidden = b8 2
 abbrev pub update : Update → List ℕ
 update u = payload u.payload ++ opt block u.info ++ opt block u.document ++ opt block u.summary
 
+-- whether there is an app, and 2 more where a reaction stands at the end
+abbrev pub app_code : Bool → Bool → ℕ
+app_code false false = 0
+app_code true false = 1
+app_code false true = 2
+app_code true true = 3
+
+-- nothing where there is none: the code before it says whether it stands
+abbrev pub reaction : Option (List ℕ) → List ℕ
+reaction None = []
+reaction (Some text) = block text
+
 -- the fields of a card: who wrote to whom, what a chat mail requests, and what is shown or said to other programs
 abbrev pub envelope : Card → List (List ℕ)
 envelope c =
@@ -60,8 +72,8 @@ requests c =
 
 abbrev pub shown : Card → List (List ℕ)
 shown c =
-    block c.subject ∷ block c.text ∷ flag c.cut ∷ list attachment c.attachments ∷ opt block c.receipt ∷ flag c.app
-    ∷ list update c.updates ∷ []
+    block c.subject ∷ block c.text ∷ flag c.cut ∷ list attachment c.attachments ∷ opt block c.receipt
+    ∷ b8 (app_code c.app (is_some c.reaction)) ∷ list update c.updates ∷ reaction c.reaction ∷ []
 
 -- the record of a card, and the number of its bytes
 abbrev pub record_of : Card → List ℕ
@@ -69,6 +81,15 @@ record_of c = concat (envelope c ++ requests c ++ shown c)
 
 abbrev pub weight : Card → ℕ
 weight c = length (record_of c)
+
+-- the same record of a card that has no reaction: a flag says whether there is an app, and the updates are last
+abbrev pub shown_plainly : Card → List (List ℕ)
+shown_plainly c =
+    block c.subject ∷ block c.text ∷ flag c.cut ∷ list attachment c.attachments ∷ opt block c.receipt ∷ flag c.app
+    ∷ list update c.updates ∷ []
+
+abbrev pub plain_record : Card → List ℕ
+plain_record c = concat (envelope c ++ requests c ++ shown_plainly c)
 
 -- a number in 64 bits: the greatest that they hold is taken for all above it
 abbrev pub capped : ℕ → ℕ

@@ -1,6 +1,6 @@
 -- The rules that a card keeps, which are those of its record: each value reads as what it is said to be, numbers fit
 -- their bytes, and the record is not too long.
-use Rattle.std.specs.Prelude.{◌^◌, Bool, true, ◌&&◌, nat_lt, nat_le, length, Option, Some, None}
+use Rattle.std.specs.Prelude.{◌^◌, Bool, true, ◌&&◌, nat_lt, nat_le, ℕ, List, length, Option, Some, None}
 use Rattle.std.specs.List.{list_all}
 use Rattle.std.specs.Str.{is_utf8}
 use Rattle.kit.specs.Addresses.{is_addr}
@@ -68,7 +68,7 @@ is_requests c =
 abbrev pub is_shown : Card → Bool
 is_shown c =
     is_utf8 c.subject && is_utf8 c.text && list_all is_attachment c.attachments && where_some is_id c.receipt
-    && list_all is_utf8_update c.updates
+    && list_all is_utf8_update c.updates && where_some is_utf8 c.reaction
 
 -- ---- what they leave open
 
@@ -76,12 +76,16 @@ is_shown c =
 abbrev pub fits_weight : Card → Bool
 fits_weight c = nat_le (weight c) 1048576
 
--- How heavy a card is, a date that is a moment, how long its text is, payloads that are not empty, and that each
+-- a reaction that is not too long
+abbrev pub is_short : List ℕ → Bool
+is_short reaction = nat_le (length reaction) 255
+
+-- How heavy a card is, a date that is a moment, how long its text and its reaction are, payloads that are not empty, and that each
 -- address is once in To and once in Cc.
 abbrev pub keeps_bounds : Card → Bool
 keeps_bounds c =
     fits_weight c && where_some (λ date. nat_le date last_moment) c.date && nat_le (length c.text) 32768
-    && list_all is_nonempty_update c.updates && are_distinct c.to && are_distinct c.cc
+    && where_some is_short c.reaction && list_all is_nonempty_update c.updates && are_distinct c.to && are_distinct c.cc
 
 abbrev pub is_valid : Card → Bool
 is_valid c = keeps_bounds c && is_envelope c && is_requests c && is_shown c

@@ -125,6 +125,8 @@ pub struct Card {
     pub app: bool,
     /// The updates that it brings to an app, in their order.
     pub updates: Items<Update>,
+    /// What it says of the mails that it answers, as a reaction to them (RFC 9078); in a valid card no more than 255 bytes.
+    pub reaction: Option<Text>,
 }
 
 impl Card {
@@ -157,6 +159,7 @@ impl Card {
             receipt: None,
             app: false,
             updates: Items::new(alloc),
+            reaction: None,
         }
     }
 }

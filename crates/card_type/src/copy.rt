@@ -50,6 +50,7 @@ struct Acts {
     deletes: Items<Id>,
     receipt: Option<Id>,
     updates: Items<Update>,
+    reaction: Option<Text>,
 }
 
 fn copy_people(card: &Card) -> Result<People, Memory>
@@ -96,13 +97,14 @@ fn copy_shown(card: &Card) -> Result<Shown, Memory>
 }
 
 fn copy_acts(card: &Card) -> Result<Acts, Memory>
-    ensures { IfOk result (λ acts. acts ≡ record { edit = card.now.edit; deletes = card.now.deletes; receipt = card.now.receipt; updates = card.now.updates }) }
+    ensures { IfOk result (λ acts. acts ≡ record { edit = card.now.edit; deletes = card.now.deletes; receipt = card.now.receipt; updates = card.now.updates; reaction = card.now.reaction }) }
 {
     Ok(Acts {
         edit: copy_option(&card.edit)?,
         deletes: card.deletes.copy()?,
         receipt: copy_option(&card.receipt)?,
         updates: card.updates.copy()?,
+        reaction: copy_option(&card.reaction)?,
     })
 }
 
@@ -141,6 +143,7 @@ impl Card {
             receipt: acts.receipt,
             app: self.app,
             updates: acts.updates,
+            reaction: acts.reaction,
         })
     }
 }

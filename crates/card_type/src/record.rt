@@ -1,5 +1,5 @@
 //! How many bytes the record of a card has, without writing it.
-ghost use Rattle.std.specs.Prelude.{◌≡◌, ◌<◌, ◌≤◌, ◌^◌, ℕ, Bool, List, true, length, nat_lt};
+ghost use Rattle.std.specs.Prelude.{◌≡◌, ◌<◌, ◌≤◌, ◌^◌, ℕ, Bool, List, true, is_some, length, nat_lt};
 ghost use Rattle.std.specs.List.{concat, list_all, sum};
 ghost use Rattle.std.specs.Str.{is_utf8};
 ghost use Rattle.kit.specs.Addresses.{is_addr};
@@ -177,6 +177,24 @@ impl Recorded for Update {
     }
 }
 
+/// A code of one byte, which says whether there is an app and whether a reaction stands at the end.
+fn code_weight(card: &Card) -> u64
+    ensures { result ≡ capped (length (records.b8 (records.app_code card.now.app (is_some card.now.reaction)))) }
+{
+    card.app.weight()
+}
+
+/// Nothing where there is no reaction.
+fn reaction_weight(reaction: &Option<Text>) -> u64
+    ensures value { result ≡ capped (length (records.reaction reaction.now)) }
+    ensures rule { where_some is_utf8 reaction.now ≡ true }
+{
+    match reaction {
+        Some(text) => text.weight(),
+        None => 0,
+    }
+}
+
 fn total(weights: &[u64]) -> u64
     ensures { result ≡ capped (sum weights.now) }
 {
@@ -233,8 +251,9 @@ fn shown_weight(card: &Card) -> u64
         card.cut.weight(),
         card.attachments.weight(),
         card.receipt.weight(),
-        card.app.weight(),
+        code_weight(card),
         card.updates.weight(),
+        reaction_weight(&card.reaction),
     ])
 }
 

@@ -3,16 +3,18 @@ ghost use Rattle.std.specs.Prelude.{◌≡◌, nat_le};
 ghost use Rattle.std.specs.List.{list_all};
 ghost use Rattle.lists.specs.Distinct.{are_distinct};
 ghost use Rattle.kit.specs.Moments.{last_moment};
-ghost use Rattle.card_type.specs.Rules.{where_some, is_nonempty_update, fits_weight, keeps_bounds, is_valid};
+ghost use Rattle.card_type.specs.Rules.{where_some, is_nonempty_update, is_short, fits_weight, keeps_bounds, is_valid};
 
 use crate::card::{Card, Payload, Update};
 use crate::record::weight;
-use kit::{Addr, LAST_MOMENT};
+use kit::{Addr, LAST_MOMENT, Text};
 
 /// The most bytes that the record of a valid card has.
 const MAX_WEIGHT: u64 = 1_048_576;
 /// The most bytes that the text of a valid card has.
 pub const MAX_TEXT_LEN: usize = 32_768;
+/// The most bytes that the reaction of a valid card has.
+pub const MAX_REACTION_LEN: usize = 255;
 
 fn is_nonempty_update(update: &Update) -> bool
     ensures { result ≡ is_nonempty_update update.now }
@@ -51,6 +53,15 @@ fn is_moment(date: Option<u64>) -> bool
     }
 }
 
+fn is_short(reaction: &Option<Text>) -> bool
+    ensures { result ≡ where_some is_short reaction.now }
+{
+    match reaction {
+        Some(text) => text.bytes().len() <= MAX_REACTION_LEN,
+        None => true,
+    }
+}
+
 /// Whether a card weighs no more than a valid one: 1,048,576 or less. Takes no memory, and time for a pass over
 /// the lists.
 ///
@@ -63,7 +74,7 @@ pub fn fits_weight(card: &Card) -> bool
 }
 
 /// Whether a card keeps its rules: ids, addresses and group ids read as such and texts are UTF-8, which no
-/// value of `Card` breaks; the text has at most 32,768 bytes; the date is a moment, at most `LAST_MOMENT`;
+/// value of `Card` breaks; the text has at most 32,768 bytes, and a reaction at most 255; the date is a moment, at most `LAST_MOMENT`;
 /// no address is twice in `to` or in `cc`; no payload is an empty text; and the weight is at most
 /// 1,048,576. Takes no memory, and in a card that is not too heavy time for a comparison of each two addresses
 /// of a list.
@@ -74,6 +85,7 @@ pub fn is_valid(card: &Card) -> bool
     fits_weight(card)
         && is_moment(card.date)
         && card.text.bytes().len() <= MAX_TEXT_LEN
+        && is_short(&card.reaction)
         && are_nonempty_updates(card.updates.as_slice())
         && are_distinct(card.to.as_slice())
         && are_distinct(card.cc.as_slice())

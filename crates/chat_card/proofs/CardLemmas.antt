@@ -1,5 +1,5 @@
 -- Lemmas on the rules that a card keeps, and on what a mail is answered.
-use Rattle.std.proofs.Common.{inr, ◌≡◌, ◌≤◌, ℕ, Bool, true, false, List, [], ◌∷◌, length, refl}
+use Rattle.std.proofs.Common.{inr, ◌≡◌, ◌≤◌, ℕ, Bool, true, false, List, [], ◌∷◌, length, refl, ap}
 use Rattle.std.specs.Prelude.{◌&&◌, ◌==◌, ◌⊎◌, drop, IfErr, IfOk, IfSome, IsTrue, Option, Some, None, Result, Ok, Err, nat_le}
 use Rattle.std.specs.List.{list_all}
 use Rattle.std.proofs.lemmas.Bool.{and_parts, le-leb}
@@ -9,17 +9,17 @@ use Rattle.mail_address.specs.declared.person.Person.{Person}
 use Rattle.mail_headers.specs.Headers.{Head}
 use Rattle.card_type.specs.declared.card.Card.{Card}
 use Rattle.card_type.specs.declared.card.Update.{Update}
-use Rattle.card_type.specs.Rules.{fits_weight, is_nonempty_update, is_update, is_utf8_update, keeps_bounds, where_some}
+use Rattle.card_type.specs.Rules.{fits_weight, is_nonempty_update, is_short, is_update, is_utf8_update, keeps_bounds, where_some}
 use Rattle.chat_card.specs.Cards.{accepted, card_from, card_with}
 use Rattle.chat_card.specs.Envelope.{sender}
 
 -- ---- the bounds of a card
 
 -- what is true takes nothing from a conjunction
-kept : (light date room updates to cc : Bool) → date ≡ true → room ≡ true → updates ≡ true → to ≡ true → cc ≡ true
-    → (light && date && room && updates && to && cc) ≡ light
-kept true date room updates to cc d r u t c = rw (d, r, u, t, c) refl
-kept false date room updates to cc d r u t c = refl
+kept : (light date room short updates to cc : Bool) → date ≡ true → room ≡ true → short ≡ true → updates ≡ true → to ≡ true → cc ≡ true
+    → (light && date && room && short && updates && to && cc) ≡ light
+kept true date room short updates to cc d r s u t c = rw (d, r, s, u, t, c) refl
+kept false date room short updates to cc d r s u t c = refl
 
 is_moment : (date : Option ℕ) → IfSome date (λ d. d ≤ last_moment) → where_some (λ d. nat_le d last_moment) date ≡ true
 is_moment None h = refl
@@ -32,9 +32,9 @@ nonempty (u ∷ us) h =
     let both = and_parts (is_update u) (list_all is_update us) h in
     rw ((and_parts (is_utf8_update u) (is_nonempty_update u) both.0).1, nonempty us both.1) refl
 
-pub bounds-kept : (c : Card) → IfSome c.date (λ d. d ≤ last_moment) → length c.text ≤ 32768 → IsTrue (list_all is_update c.updates)
+pub bounds-kept : (c : Card) → IfSome c.date (λ d. d ≤ last_moment) → length c.text ≤ 32768 → c.reaction ≡ None → IsTrue (list_all is_update c.updates)
     → are_distinct c.to ≡ true → are_distinct c.cc ≡ true → keeps_bounds c ≡ fits_weight c
-bounds-kept c date room updates to cc = kept (fits_weight c) _ _ _ _ _ (is_moment c.date date) (le-leb (length c.text) 32768 room) (nonempty c.updates updates) to cc
+bounds-kept c date room none updates to cc = kept (fits_weight c) _ _ _ _ _ _ (is_moment c.date date) (le-leb (length c.text) 32768 room) (ap (where_some is_short) none) (nonempty c.updates updates) to cc
 
 -- ---- answers
 

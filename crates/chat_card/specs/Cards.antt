@@ -43,6 +43,7 @@ card_by from fields requests contents text =
       receipt = contents.receipt;
       app = contents.app;
       updates = contents.updates;
+      reaction = None;
     }
 
 -- the card of a mail that a person sent

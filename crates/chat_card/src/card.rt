@@ -50,6 +50,7 @@ fn card_by(
         receipt: contents.receipt,
         app: contents.app,
         updates: contents.updates,
+        reaction: None,
     }
 }
 

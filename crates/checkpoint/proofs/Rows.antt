@@ -7,9 +7,9 @@ use Rattle.card_type.proofs.WorkedCards.{me, M1}
 use Rattle.outside.specs.declared.shelf.Place.TheVariants.{A, B}
 use Rattle.mailbox_model.specs.Mailbox.{Mailbox}
 use Rattle.card_record.specs.Reading.{flag_at, block_at, block_of, moment_at, opt_of, list_of, times_of, new_addr}
-use Rattle.card_record.specs.Cards.{envelope_at, requests_at, shown_at, later_at, fields_at, record_at}
+use Rattle.card_record.specs.Cards.{envelope_at, requests_at, app_at, said_at, shown_at, later_at, fields_at, record_at}
 use Rattle.state_image.specs.declared.position.Position.{Position}
-use Rattle.state_image.specs.Images.{image, image_of, position_at, head_at, mail_after, entry_after, entries_at, body_at}
+use Rattle.state_image.specs.Images.{image, image_of, both_traces_at, counts_at, position_at, head_at, mail_after, entry_after, entries_at, body_at}
 use Rattle.checkpoint.specs.Slots.{Slot, body_spelled, slot_after, slot_of, is_closed, chosen_of, next_place}
 use Rattle.checkpoint.specs.Kept.{max_image, numbered, slot_kept, kept_of}
 
@@ -18,20 +18,20 @@ abbrev first : Mailbox
 first = record { me = me; now = 1714564800; next_uid = 2; entries = record { uid = 1; arrival = 1714564800; seen = None; read = Ok M1 } ∷ [] }
 
 abbrev two_changes : Position
-two_changes = record { count = 2; mbox = 126; steps = 0; lines = 0 }
+two_changes = record { count = 2; mbox = 126; steps = 0; lines = 0; mbox_trace = replicate 32 0; steps_trace = replicate 32 0 }
 
 abbrev bytes : List ℕ
 bytes = image first two_changes
 
--- the first save of it writes 207 bytes into A
+-- the first save of it writes 271 bytes into A
 abbrev place_a : List ℕ
-place_a = 1 ∷ replicate 7 0 ++ 2 ∷ replicate 7 0 ++ 190 ∷ bytes
+place_a = 1 ∷ replicate 7 0 ++ 2 ∷ replicate 7 0 ++ 254 ∷ bytes
 
 spelled : 1 ∷ body_spelled 2 bytes ≡ place_a
 unfolding body_spelled
 spelled = refl
 
-size : length place_a ≡ 207
+size : length place_a ≡ 271
 size = refl
 
 open_slot : slot_of place_a ≡ Some (record { number = 2; image = bytes })
@@ -39,11 +39,11 @@ unfolding slot_after
 open_slot = refl
 
 kept : kept_of (record { a = place_a; b = []; t = [] }) ≡ Ok (Some (first, two_changes))
-unfolding slot_after body_at head_at position_at entries_at entry_after mail_after record_at fields_at later_at envelope_at requests_at shown_at flag_at block_at block_of moment_at opt_of list_of times_of new_addr is_utf8 chars lib.Utf8.encode
+unfolding slot_after body_at head_at position_at counts_at both_traces_at entries_at entry_after mail_after record_at fields_at later_at envelope_at requests_at shown_at said_at app_at flag_at block_at block_of moment_at opt_of list_of times_of new_addr is_utf8 chars lib.Utf8.encode
 kept = refl
 
 in_b : kept_of (record { a = []; b = place_a; t = [] }) ≡ Ok (Some (first, two_changes))
-unfolding slot_after body_at head_at position_at entries_at entry_after mail_after record_at fields_at later_at envelope_at requests_at shown_at flag_at block_at block_of moment_at opt_of list_of times_of new_addr is_utf8 chars lib.Utf8.encode
+unfolding slot_after body_at head_at position_at counts_at both_traces_at entries_at entry_after mail_after record_at fields_at later_at envelope_at requests_at shown_at said_at app_at flag_at block_at block_of moment_at opt_of list_of times_of new_addr is_utf8 chars lib.Utf8.encode
 in_b = refl
 
 nothing_kept : kept_of (record { a = []; b = []; t = [] }) ≡ Ok None
@@ -60,7 +60,7 @@ unfolding slot_after body_at head_at block_of block_at
 malformed = refl
 
 other_number : kept_of (record { a = take 8 place_a ++ 3 ∷ drop 9 place_a; b = []; t = [] }) ≡ Err (A, 1)
-unfolding slot_after body_at head_at position_at entries_at entry_after mail_after record_at fields_at later_at envelope_at requests_at shown_at flag_at block_at block_of moment_at opt_of list_of times_of new_addr is_utf8 chars lib.Utf8.encode
+unfolding slot_after body_at head_at position_at counts_at both_traces_at entries_at entry_after mail_after record_at fields_at later_at envelope_at requests_at shown_at said_at app_at flag_at block_at block_of moment_at opt_of list_of times_of new_addr is_utf8 chars lib.Utf8.encode
 other_number = refl
 
 -- an image over the bound, whatever it holds

@@ -11,7 +11,7 @@ use Rattle.mailbox_model.specs.declared.change.Fault.{Fault}
 use Rattle.mailbox_model.specs.Mailbox.{Mailbox, Entry, weight_read, weights}
 use Rattle.state_image.specs.declared.fault.ImageFault.{ImageFault}
 use Rattle.state_image.specs.declared.position.Position.{Position}
-use Rattle.state_image.specs.Images.{name_1, image, image_of, position_spelled, mail_spelled, entry_spelled, HasImage}
+use Rattle.state_image.specs.Images.{counts_of, counts_written, name_of, image, image_of, IsPosition, position_spelled, mail_spelled, entry_spelled, HasImage}
 use Rattle.checkpoint.specs.Kept.{max_image, numbered, slot_kept}
 
 mail_size : (read : Result Card Fault) → length (mail_spelled read) ≤ 1 + weight_read read
@@ -50,20 +50,21 @@ parts_size a b c d e f = omega (arith, length-append (a ++ b ++ c ++ d ++ e) f, 
 block_size : (me : List ℕ) → length (records.block me) ≡ 4 + length me
 block_size me = omega arith
 
-position_size : (p : Position) → length (position_spelled p) ≡ 32
-position_size p = omega arith
+position_size : (p : Position) → IsPosition p → length (position_spelled true p) ≡ 96
+position_size p is =
+    omega (arith, is.mbox_trace, is.steps_trace, length-append (counts_written (counts_of p)) (p.mbox_trace ++ p.steps_trace), length-append p.mbox_trace p.steps_trace)
 
 list_size : (entries : List Entry) → length (records.list entry_spelled entries) ≡ 4 + length (flat_map entry_spelled entries)
 list_size entries = omega arith
 
-bound : (size a b c d e f me items n w : ℕ) → size ≡ a + b + c + d + e + f → a ≡ 8 → b ≡ 4 + me → c ≡ 32 → d ≡ 8 → e ≡ 4 → f ≡ 4 + items → me ≤ 254 → items ≤ 22 * n + w → n ≤ 65536 → w ≤ 268435456 → size ≤ 1073741824
-bound size a b c d e f me items n w is a8 b4 c32 d8 e4 f4 few long many heavy = omega (arith, is, a8, b4, c32, d8, e4, f4, few, long, many, heavy)
+bound : (size a b c d e f me items n w : ℕ) → size ≡ a + b + c + d + e + f → a ≡ 8 → b ≡ 4 + me → c ≡ 96 → d ≡ 8 → e ≡ 4 → f ≡ 4 + items → me ≤ 254 → items ≤ 22 * n + w → n ≤ 65536 → w ≤ 268435456 → size ≤ 1073741824
+bound size a b c d e f me items n w is a8 b4 c96 d8 e4 f4 few long many heavy = omega (arith, is, a8, b4, c96, d8, e4, f4, few, long, many, heavy)
 
 image_size : (m : Mailbox) (p : Position) → HasImage m p → length (image m p) ≤ max_image
 image_size m p has =
-    bound (length (image m p)) (length name_1) (length (records.block m.me)) (length (position_spelled p)) (length (records.b64 m.now)) (length (records.b32 m.next_uid)) (length (records.list entry_spelled m.entries)) (length m.me) (length (flat_map entry_spelled m.entries)) (length m.entries) (weights m.entries)
-    (parts_size name_1 (records.block m.me) (position_spelled p) (records.b64 m.now) (records.b32 m.next_uid) (records.list entry_spelled m.entries))
-    refl (block_size m.me) (position_size p) refl refl (list_size m.entries) (addr_size m.me has.me) (entries_size m.entries) has.rules.count_fits has.rules.weight_fits
+    bound (length (image m p)) (length (name_of true)) (length (records.block m.me)) (length (position_spelled true p)) (length (records.b64 m.now)) (length (records.b32 m.next_uid)) (length (records.list entry_spelled m.entries)) (length m.me) (length (flat_map entry_spelled m.entries)) (length m.entries) (weights m.entries)
+    (parts_size (name_of true) (records.block m.me) (position_spelled true p) (records.b64 m.now) (records.b32 m.next_uid) (records.list entry_spelled m.entries))
+    refl (block_size m.me) (position_size p has.position) refl refl (list_size m.entries) (addr_size m.me has.me) (entries_size m.entries) has.rules.count_fits has.rules.weight_fits
 
 within_bound : (b : Bool) (x : Result (Mailbox × Position) ℕ) → b ≡ false → cond b (Err 9) x ≡ x
 within_bound b x is = ap (λ (c : Bool). cond c (Err 9) x) is

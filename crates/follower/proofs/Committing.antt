@@ -125,8 +125,8 @@ module _ (start : Outset) (feed others : Feed) (k : Keeping) (now : Counts) (pla
     state_is : k.state ≡ after_feds first (take (256 * way.commits + 256) feed.changes)
     state_is = way.leads.state ∙ ap (after_feds first) (sym all.1)
 
-    commit_fills : (new : Keeping) → fill_of new.store ≡ fill_with (fill_of k.store) (39 + length k.pending.bytes) → fill_of new.store ≡ (spent_by first start.fill feed.changes (suc way.commits)).fill
-    commit_fills new fill = fill ∙ (λ i. fill_with (way.fill i) (39 + size_is i))
+    commit_fills : (new : Keeping) → fill_of new.store ≡ fill_with (fill_of k.store) (length k.pending.bytes) → fill_of new.store ≡ (spent_by first start.fill feed.changes (suc way.commits)).fill
+    commit_fills new fill = fill ∙ (λ i. fill_with (way.fill i) (size_is i))
 
     commit_rose : (later : Counts) → later.reads ≤ now.reads + commit_reads (fill_of k.store) (length k.pending.bytes) k.state
         → RisesUpTo (commit_writes (fill_of k.store) (length k.pending.bytes) k.state) now.written later.written
@@ -160,7 +160,7 @@ module _ (start : Outset) (feed others : Feed) (k : Keeping) (now : Counts) (pla
 
   -- 256 changes are committed, and none is pending
   pub way_committed : (new : Keeping) (later : Counts) (after : Places) → k.pending.count ≡ 256 → stands k.state.mailbox.me after ≡ Ok k.state → new.state ≡ k.state → new.pending ≡ none_pending
-      → fill_of new.store ≡ fill_with (fill_of k.store) (39 + length k.pending.bytes) → RoseWithin start.counts (with_reads cost (spent_by first start.fill feed.changes (suc way.commits)).counts) later
+      → fill_of new.store ≡ fill_with (fill_of k.store) (length k.pending.bytes) → RoseWithin start.counts (with_reads cost (spent_by first start.fill feed.changes (suc way.commits)).counts) later
       → Way start feed others new later after
   way_committed new later after full stood state none fill rose =
       let all : length done ≡ 256 * suc way.commits = omega (arith, way.split, full) in record {

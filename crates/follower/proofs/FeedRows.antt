@@ -5,6 +5,7 @@ use Rattle.mailbox_model.specs.declared.change.Change.{Change}
 use Rattle.mailbox_model.specs.declared.change.Change.TheVariants.{ArriveFault, Expunge, Seen, At}
 use Rattle.mailbox_model.specs.declared.change.Fault.TheVariants.{NoFields}
 use Rattle.mailbox_model.specs.Lists.{Bytes}
+use Rattle.state_image.specs.Images.{no_trace}
 use Rattle.state_image.specs.declared.position.Position.{Position}
 use Rattle.state_store.specs.States.{first_state}
 use Rattle.follower.specs.Feed.{BadLine, End, Fed, feed}
@@ -13,7 +14,7 @@ abbrev me : Bytes
 me = codes "me@x.org"
 
 abbrev position : (count mbox steps lines : ℕ) → Position
-position count mbox steps lines = record { count = count; mbox = mbox; steps = steps; lines = lines }
+position count mbox steps lines = record { count = count; mbox = mbox; steps = steps; lines = lines; mbox_trace = no_trace; steps_trace = no_trace }
 
 abbrev made : Change → Position → Fed
 made change p = record { change = change; position = p }

@@ -201,7 +201,7 @@ module _ {D : Type 0} (moment : D → ℕ) (left_since : D → ℕ → Places �
     module _ (later : Counts) (reads : later.reads ≤ now.reads + commit_reads (fill_of k.store) (length k.pending.bytes) k.state)
         (writes : RisesUpTo (commit_writes (fill_of k.store) (length k.pending.bytes) k.state) now.written later.written) where
       pub full_goes : (r : Result Unit RunFault) (after : Keeping) → k.pending.count ≡ 256 → OnOk r (KnownThen (seen old) (seen new) (λ _ places. stands k.state.mailbox.me places ≡ Ok k.state))
-          → after.state ≡ k.state → OnOk r (after.pending ≡ none_pending) → (1 ≤ k.pending.count → OnOk r (fill_of after.store ≡ fill_with (fill_of k.store) (39 + length k.pending.bytes)))
+          → after.state ≡ k.state → OnOk r (after.pending ≡ none_pending) → (1 ≤ k.pending.count → OnOk r (fill_of after.store ≡ fill_with (fill_of k.store) (length k.pending.bytes)))
           → CommitGoes r start feed others after later (seen new)
       full_goes (Ok t) after full lasting state none fill =
           let after_it = lasting.forth known.places known.is in record {

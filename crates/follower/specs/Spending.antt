@@ -50,7 +50,7 @@ spelled fs = flat_map (λ f. change_spelled f.change) fs
 -- a commit more, that leads to this state by changes of so many bytes
 abbrev pub with_commit : Spent → ℕ → State → Spent
 with_commit spent size s = record {
-  fill = fill_with spent.fill (39 + size);
+  fill = fill_with spent.fill size;
   counts = counts (spent.counts.reads + commit_reads spent.fill size s) (spent.counts.written + commit_writes spent.fill size s);
 }
 

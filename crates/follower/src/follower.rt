@@ -406,7 +406,7 @@ impl Follower {
     /// - `any_moment`: a crash at any moment leaves the state of before or that of the follower.
     /// - `lasting`, `kept`, `stored`, `pending`: after Ok the follower's state stands, it alone is left, and nothing is pending.
     /// - `fill`: after Ok the tail has the group too, or after a checkpoint nothing.
-    /// - `written`: no more is written than 40 bytes beside the changes, or where a checkpoint falls due 18 beside the image.
+    /// - `written`: no more is written than 104 bytes beside the changes, or where a checkpoint falls due 18 beside the image.
     /// - `reads`: an image reads each kept card once, and a group none.
     /// - `few`, `none`: no more than 256 changes are pending, and where none is nothing is done.
     pub fn commit<H: Shelf, L: Ledger>(
@@ -430,7 +430,7 @@ impl Follower {
         ensures failed { self.new.failed ≡ is_err result }
         ensures untouched { IsErrOf result RunFault.Memory → shelf.new ≡ shelf.old }
         ensures fill { 1 ≤ self.old.keeper.pending.count
-            → OnOk result (fill_of self.new.keeper.store ≡ fill_with (fill_of self.old.keeper.store) (39 + length self.old.keeper.pending.bytes)) }
+            → OnOk result (fill_of self.new.keeper.store ≡ fill_with (fill_of self.old.keeper.store) (length self.old.keeper.pending.bytes)) }
         ensures none { self.old.keeper.pending.count ≡ 0
             → (self.new.keeper.store ≡ self.old.keeper.store) × (shelf.new ≡ shelf.old) × (steps.new ≡ steps.old) }
         ensures reads { steps.new ≤ steps.old

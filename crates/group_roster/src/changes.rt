@@ -87,7 +87,7 @@ fn put_in_group(
     put_in_of_member(alloc, setters, place, spot, card)
 }
 
-/// Puts in a card of any chat.
+/// Puts in a card of any chat. That the roster stands then is said once, of all kinds of chats, by [`put_in`].
 fn follow_in(
     alloc: Global,
     setters: &mut Setters,
@@ -174,7 +174,7 @@ fn take_out_of_group(setters: &mut Setters, spot: &Spot) -> bool
     unlist(&mut setters.listings, place)
 }
 
-/// Takes the card at a spot out of any chat.
+/// Takes the card at a spot out of any chat. That the roster stands then is said once, of all kinds of chats, by [`take_out`].
 fn follow_out(setters: &mut Setters, key: &ChatKey, spot: &Spot) -> bool
     ensures says { result ≡ stays_without key.now setters.old spot.now }
     ensures taken { result ≡ true → setters.new ≡ setters_taken key.now setters.old spot.now }

@@ -64,8 +64,8 @@ kept_alone k places none is = record {
 
 -- what is pending makes a batch up to the position
 pub batch_of : (p : PendingChanges) (position : Position) (held : List Change) → ArePending p held → p.count ≤ 256 → 1 ≤ p.count → p.count ≤ position.count → IsWithin position
-    → position.mbox < 2 ^ 64 → position.steps < 2 ^ 64 → IsBatch (batch_to position held)
-batch_of p position held are few some counted within mbox steps = record {
+    → position.mbox < 2 ^ 64 → position.steps < 2 ^ 64 → length position.mbox_trace ≡ 32 → length position.steps_trace ≡ 32 → IsBatch (batch_to position held)
+batch_of p position held are few some counted within mbox steps one two = record {
   some = omega (arith, some, are.spelled.length_is);
   few = omega (arith, few, are.spelled.length_is);
   fits = are.fits;
@@ -74,13 +74,15 @@ batch_of p position held are few some counted within mbox steps = record {
   mbox = mbox;
   steps = steps;
   lines = within.lines;
+  mbox_trace = one;
+  steps_trace = two;
 }
 
 -- what is committed, over the parts of a keeper
 module _ (k : Keeping) (n : ℕ) (changes : List ℕ) (n_is : n ≡ k.pending.count) (changes_are : changes ≡ k.pending.bytes) (written : AreWritten k.pending) (some : 1 ≤ n)
-    (counted : k.pending.count ≤ k.state.position.count) (within : IsWithin k.state.position) (mbox : k.state.position.mbox < 2 ^ 64) (steps : k.state.position.steps < 2 ^ 64) where
+    (counted : k.pending.count ≤ k.state.position.count) (within : IsWithin k.state.position) (mbox : k.state.position.mbox < 2 ^ 64) (steps : k.state.position.steps < 2 ^ 64) (one : length k.state.position.mbox_trace ≡ 32) (two : length k.state.position.steps_trace ≡ 32) where
   a_batch : (held : List Change) → ArePending k.pending held → IsBatch (batch_to k.state.position held)
-  a_batch held are = batch_of k.pending k.state.position held are written.few (omega (arith, some, n_is)) counted within mbox steps
+  a_batch held are = batch_of k.pending k.state.position held are written.few (omega (arith, some, n_is)) counted within mbox steps one two
 
   are_spelled : (held : List Change) → ArePending k.pending held → AreSpelled n changes held
   are_spelled held are = record { length_is = are.spelled.length_is ∙ sym n_is; text = changes_are ∙ are.spelled.text }

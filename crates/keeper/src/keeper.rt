@@ -75,10 +75,12 @@ fn make<L: Ledger>(
     }
 }
 
-/// The offsets of a position have 64 bits, as their type says.
+/// The offsets of a position have 64 bits, and its traces 32 bytes, as their types say.
 fn has_offsets(position: Position)
     ensures mbox { position.mbox < 2 ^ 64 }
     ensures steps { position.steps < 2 ^ 64 }
+    ensures mbox_trace { length position.mbox_trace ≡ 32 }
+    ensures steps_trace { length position.steps_trace ≡ 32 }
 {}
 
 impl Keeper {
@@ -209,7 +211,7 @@ impl Keeper {
     /// - `any_moment`: a crash at any moment leaves the state of before or that of the keeper.
     /// - `kept`, `stored`, `pending`: after Ok the keeper's state stands, it alone is left, and nothing is pending.
     /// - `fill`: after Ok the tail has the group too, or after a checkpoint nothing.
-    /// - `written`: no more is written than 40 bytes beside the changes, or where a checkpoint falls due 18 beside the image.
+    /// - `written`: no more is written than 104 bytes beside the changes, or where a checkpoint falls due 18 beside the image.
     /// - `reads`: an image reads each kept card once, and a group none.
     /// - `few`, `none`: no more than 256 changes are pending, and where none is nothing is done.
     pub fn commit<H: Shelf, L: Ledger>(
@@ -229,7 +231,7 @@ impl Keeper {
         ensures state { self.new.state ≡ self.old.state }
         ensures stale { self.new.stale ≡ self.old.stale }
         ensures fill { 1 ≤ self.old.pending.count
-            → OnOk result (fill_of self.new.store ≡ fill_with (fill_of self.old.store) (39 + length self.old.pending.bytes)) }
+            → OnOk result (fill_of self.new.store ≡ fill_with (fill_of self.old.store) (length self.old.pending.bytes)) }
         ensures none { self.old.pending.count ≡ 0 → (self.new ≡ self.old) × (shelf.new ≡ shelf.old) × (steps.new ≡ steps.old) }
         ensures untouched { IsErrOf result KeepFault.Memory → shelf.new ≡ shelf.old }
         ensures written { RisesUpTo (commit_writes (fill_of self.old.store) (length self.old.pending.bytes) self.old.state)

@@ -1,3 +1,4 @@
+pub mod ChainLaws
 pub mod ContentLemmas
 mod DigitLemmas
 pub mod FrontLaws

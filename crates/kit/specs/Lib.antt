@@ -1,5 +1,6 @@
 -- What public clauses cite.
 pub mod Addresses
+pub mod Chains
 pub mod Charsets
 pub mod Comments
 pub mod Cuts

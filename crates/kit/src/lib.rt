@@ -17,6 +17,7 @@ mod moment;
 mod printing;
 mod steps;
 mod text;
+mod trace;
 mod white;
 
 pub use addr::Addr;
@@ -33,4 +34,5 @@ pub use moment::{LAST_MOMENT, SECONDS_PER_DAY};
 pub use printing::{is_printing, is_visible};
 pub use steps::Steps;
 pub use text::Text;
+pub use trace::{Trace, pieces_of_a_trace_join};
 pub use white::{is_blank, is_white, trim, trim_end};

@@ -1,6 +1,6 @@
 -- How many contents there are, and how many updates on any of them.
 use Rattle.std.proofs.Common.{◌≡◌, refl, sym, ap, ◌∙◌, ℕ, ◌+◌, ◌≤◌, Bool, not, Option, Some, None, Result, Ok, Err, List, [], ◌∷◌, ◌++◌, length, map, arith, length-append}
-use Rattle.std.specs.Prelude.{filter_map, filter, sum_by, flat_map}
+use Rattle.std.specs.Prelude.{is_some, filter_map, filter, sum_by, flat_map}
 use Rattle.std.specs.List.{concat, cons_option, enumerate_from}
 use Rattle.std.proofs.lemmas.List.{length-map}
 use Rattle.std.proofs.lemmas.List.Filters.{sum_by-filter_both}
@@ -14,7 +14,7 @@ use Rattle.card_type.specs.declared.card.Payload.TheVariants.{Absent, Json, Hidd
 use Rattle.card_type.specs.declared.card.Update.{Update}
 use Rattle.card_type.specs.declared.effect.Effect.TheVariants as effects
 use Rattle.card_type.specs.Kinds.{kind_of, is_content}
-use Rattle.card_type.specs.Records.{weight, envelope, requests, b32, block, flag, opt, list, attachment, payload, update}
+use Rattle.card_type.specs.Records.{weight, envelope, requests, b8, b32, block, flag, opt, list, app_code, attachment, payload, update, reaction}
 use Rattle.mailbox_model.specs.declared.change.Fault.{Fault}
 use Rattle.mailbox_model.specs.Mailbox.{Mailbox, Entry, weight_read, max_entries, max_total_weight, IsMailbox}
 use Rattle.mailbox_model.specs.Present.{Placed, Mail, mail_by, mail_of, mails, same_id, present, present_cards, contents}
@@ -95,13 +95,15 @@ concat-push (y ∷ xs) x = omega (arith, length-append y (concat (xs ++ x ∷ []
 
 updates_weigh : (c : Card) → length c.updates ≤ weight c
 updates_weigh c =
-    let whole : weight c ≡ length (concat (envelope c ++ requests c ++ before)) + length (list update c.updates) = concat-push (envelope c ++ requests c ++ before) (list update c.updates) in
+    let updates : List (List ℕ) = list update c.updates ∷ [] in
+    let whole : weight c ≡ length (concat (envelope c ++ requests c ++ before ++ updates)) + length (reaction c.reaction) = concat-push (envelope c ++ requests c ++ before ++ updates) (reaction c.reaction) in
+    let front : length (concat (envelope c ++ requests c ++ before ++ updates)) ≡ length (concat (envelope c ++ requests c ++ before)) + length (list update c.updates) = concat-push (envelope c ++ requests c ++ before) (list update c.updates) in
     let last : length (list update c.updates) ≡ length (b32 (length c.updates)) + length (flat_map update c.updates) = length-append (b32 (length c.updates)) (flat_map update c.updates) in
-    omega (arith, whole, last, some_updates c.updates)
+    omega (arith, whole, front, last, some_updates c.updates)
   where
     before : List (List ℕ)
     before =
-        block c.subject ∷ block c.text ∷ flag c.cut ∷ list attachment c.attachments ∷ opt block c.receipt ∷ flag c.app ∷ []
+        block c.subject ∷ block c.text ∷ flag c.cut ∷ list attachment c.attachments ∷ opt block c.receipt ∷ b8 (app_code c.app (is_some c.reaction)) ∷ []
 
 -- ---- the updates on a card
 

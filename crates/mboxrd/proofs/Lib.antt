@@ -3,6 +3,7 @@ pub mod Stepping
 pub mod Unchanged
 pub mod NextMail
 pub mod Progress
+pub mod Tracing
 pub mod Reaching
 pub mod Answered
 pub mod Skipped

@@ -1,11 +1,14 @@
 //! The reader of an mbox.
-ghost use Rattle.std.specs.Prelude.{◌≡◌, ◌<◌, ◌≤◌, ◌+◌, ◌++◌, ℕ, List, [], take, drop, length, min, IfOk, OnOk, OnErr, IsErrOf, MatchResult, true, false};
+ghost use Rattle.std.specs.Prelude.{◌≡◌, ◌≢◌, ◌<◌, ◌≤◌, ◌+◌, ◌++◌, ℕ, List, [], take, drop, length, min, IfOk, OnOk, OnErr, IsErrOf, MatchResult, true, false};
 ghost use Rattle.std.specs.Io.KnownBytes.{IsAtEnd};
 ghost use Rattle.outside.specs.Causes.{Rose};
 ghost use Rattle.source_buffer.specs.Buffered.{Drops};
 ghost use Rattle.source_buffer.specs.Known.{IfKnown};
 ghost use Rattle.mboxrd.specs.Mails.{mails_from};
-ghost use Rattle.mboxrd.specs.Reading.{IsAt, Takes, position};
+ghost use Rattle.kit.specs.Chains.{StandsFor, chain, no_cut, value_of};
+ghost use Rattle.mboxrd.specs.Reading.{IsAt, IsTraced, Takes, position};
+ghost use Rattle.mboxrd.specs.Traced.{Goes, GoesBy};
+ghost use Rattle.mboxrd.specs.declared.taken.Taken.TheVariants as taken;
 ghost use Rattle.mboxrd.specs.Answers.{max_mail_len, AtMostOneMail, HoldsRest, Decides, IsNext};
 ghost use Rattle.mboxrd.specs.ToSeparator.{SameMails, OneMail};
 
@@ -13,7 +16,7 @@ use crate::fault::BoxFault;
 use crate::line_state::{LineState, Preceding};
 use crate::separator::read_to_separator;
 use crate::taken::Taken;
-use kit::Memory;
+use kit::{Memory, Trace};
 use outside::Source;
 use source_buffer::{Buffer, Prefix};
 use std::alloc::Global;
@@ -39,6 +42,8 @@ pub struct MboxReader {
     at_separator: bool,
     place: u64,
     refused: bool,
+    // Of the bytes up to the place.
+    trace: Trace,
 }
 
 impl Model for MboxReader {
@@ -55,6 +60,7 @@ impl Model for MboxReader {
       budget = reader.buffer.budget;
       at_separator = reader.at_separator;
       refused = reader.refused;
+      trace = reader.trace;
     } };
 
     ghost invariant = { λ reader. length (with_from reader.at_separator reader.buffer.held) ≤ reader.buffer.taken };
@@ -66,14 +72,16 @@ impl MboxReader {
     pub fn new(alloc: Global, chunk_len: usize, budget: u64) -> Result<MboxReader, Memory>
         requires some { 1 ≤ chunk_len }
         requires limit { chunk_len ≤ 1048576 }
-        ensures { IfOk result (λ reader. reader ≡ record {
+        ensures value { IfOk result (λ reader. reader ≡ record {
           held = [];
           place = 0;
           taken = 0;
           budget = budget;
           at_separator = false;
           refused = false;
+          trace = no_cut;
         }) }
+        ensures traced { IfOk result (λ reader. (file : List ℕ) → IsTraced file reader) }
     {
         let buffer = Buffer::new(alloc, chunk_len, budget)?;
         Ok(MboxReader {
@@ -81,6 +89,7 @@ impl MboxReader {
             at_separator: false,
             place: 0,
             refused: false,
+            trace: Trace::new(),
         })
     }
 
@@ -91,6 +100,15 @@ impl MboxReader {
         ensures { result ≡ self.now.place }
     {
         self.place
+    }
+
+    /// The chain of the bytes up to `place` ([`kit::Trace`]): after a skip and before the first mail that of the bytes that
+    /// were passed over. Takes no memory.
+    pub fn trace(&self) -> [u8; 32]
+        ensures value { result ≡ value_of self.now.trace }
+        ensures chain { (file : List ℕ) → StandsFor self.now.trace (take self.now.place file) → result ≡ chain (take self.now.place file) }
+    {
+        self.trace.value()
     }
 
     /// Passes over up to `count` bytes, and says how many: fewer only at the end. The next line may then be a
@@ -109,7 +127,7 @@ impl MboxReader {
         // These bytes were taken of the source, and at Err they and what was held were too few.
         ensures took { (bytes : List ℕ) × Takes (S.left source.old) (S.left source.new) self.old self.new bytes
             × (MatchResult result
-            (λ dropped. Drops self.old.held bytes dropped self.new.held)
+            (λ dropped. Drops self.old.trace self.new.trace self.old.held bytes dropped self.new.held)
             (λ _. length (self.old.held ++ bytes) < count)) }
         ensures count { IfOk result (λ dropped. dropped ≤ count) }
         ensures end { IfOk result (λ dropped. dropped < count → IsAtEnd (S.left source.new) × (self.new.held ≡ [])) }
@@ -121,10 +139,13 @@ impl MboxReader {
         // What is held, followed by what the source has left, is the file from the reader's position on.
         ensures position { OnOk result (IfKnown (S.left source.old) (S.left source.new) (λ before after.
             (file : List ℕ) → IsAt file before self.old → IsAt file after self.new)) }
+        // Where the trace stands for the bytes up to the place, it does so then.
+        ensures traced { OnOk result (IfKnown (S.left source.old) (S.left source.new) (λ before after.
+            (file : List ℕ) → IsAt file before self.old → IsTraced file self.old → IsTraced file self.new)) }
     {
         // The reader was at no separator line, and is at none after the skip.
         self.refused = true;
-        let dropped = self.buffer.skip(source, count)?;
+        let dropped = self.buffer.skip(source, count, &mut self.trace)?;
         self.refused = false;
         self.place = self.buffer.position();
         Ok(dropped)
@@ -137,13 +158,14 @@ impl MboxReader {
         ensures endless { IsErrOf result BoxFault.Endless → self.new.taken ≡ self.new.budget }
         ensures took { (bytes : List ℕ) × Takes (S.left source.old) (S.left source.new) self.old self.new bytes
             × (MatchResult result
-            (λ _. SameMails self.old bytes self.new × HoldsRest self.old bytes self.new)
+            (λ found. SameMails self.old bytes self.new × HoldsRest self.old bytes self.new × (found ≡ true → Goes self.old bytes self.new))
             (λ why. why ≡ BoxFault.Endless → AtMostOneMail self.old bytes)) }
         ensures before { length self.old.held ≤ self.old.taken }
         ensures fewer { length self.new.held ≤ self.new.taken }
         ensures found { IfOk result (λ found. found ≡ self.new.at_separator) }
         ensures end { IfOk result (λ found. found ≡ false → IsAtEnd (S.left source.new) × (self.new.held ≡ [])) }
         ensures place { self.new.place ≡ self.old.place }
+        ensures trace { IfOk result (λ found. found ≡ false → self.new.trace ≡ self.old.trace) }
         ensures usable { OnOk result (self.old.refused ≡ false → self.new.refused ≡ false) }
         ensures refused { OnErr result (self.new.refused ≡ true) }
     {
@@ -151,15 +173,23 @@ impl MboxReader {
             return Ok(true);
         }
         let mut nothing = Prefix::new(alloc, 0);
+        let mut trace = self.trace.copy();
         self.refused = true;
-        self.at_separator = read_to_separator(
+        let found = read_to_separator(
             &mut self.buffer,
             source,
             LineState::Start(Preceding::Nothing),
             &mut nothing,
+            &mut trace,
         )?;
+        self.at_separator = found;
         self.refused = false;
-        Ok(self.at_separator)
+        if !found {
+            // The place stays, and so does its trace.
+            return Ok(false);
+        }
+        self.trace = trace;
+        Ok(true)
     }
 
     // Reads the mail whose separator line it is at, and gives its bytes: of one that is too long only the first, one
@@ -172,7 +202,7 @@ impl MboxReader {
         ensures took { (bytes : List ℕ) × Takes (S.left source.old) (S.left source.new) self.old self.new bytes
             × (MatchResult result
             (λ kept. (mail : List ℕ) × (kept.items ≡ take (max_mail_len + 1) mail)
-            × OneMail self.old bytes mail self.new × HoldsRest self.old bytes self.new)
+            × OneMail self.old bytes mail self.new × HoldsRest self.old bytes self.new × Goes self.old bytes self.new)
             (λ why. why ≡ BoxFault.Endless → AtMostOneMail self.old bytes)) }
         ensures fewer { length self.new.held ≤ self.new.taken }
         ensures end { OnOk result (self.new.at_separator ≡ false → IsAtEnd (S.left source.new) × (self.new.held ≡ [])) }
@@ -183,7 +213,14 @@ impl MboxReader {
         self.refused = true;
         self.at_separator = false;
         let mut mail = Prefix::new(alloc, MAX_MAIL_LEN + 1);
-        let found = read_to_separator(&mut self.buffer, source, LineState::Separator, &mut mail)?;
+        self.trace.add(b"From ");
+        let found = read_to_separator(
+            &mut self.buffer,
+            source,
+            LineState::Separator,
+            &mut mail,
+            &mut self.trace,
+        )?;
         self.at_separator = found;
         // The mail ends before the `From ` that was read.
         self.place = self.buffer.position() - if found { 5 } else { 0 };
@@ -206,11 +243,14 @@ impl MboxReader {
         // mail begins in them, so its end is not known.
         ensures took { (bytes : List ℕ) × Takes (S.left source.old) (S.left source.new) self.old self.new bytes
             × (MatchResult result
-            (λ answer. Decides self.old bytes answer self.new × HoldsRest self.old bytes self.new)
+            (λ answer. Decides self.old bytes answer self.new × HoldsRest self.old bytes self.new × GoesBy answer self.old bytes self.new)
             (λ why. why ≡ BoxFault.Endless → AtMostOneMail self.old bytes)) }
         ensures end { OnOk result (self.new.at_separator ≡ false → IsAtEnd (S.left source.new) × (self.new.held ≡ [])) }
         ensures usable { OnOk result (self.new.refused ≡ false) }
         ensures refused { OnErr result (self.new.refused ≡ true) }
+        // At a mail the place is where the next one begins, and at the end it stays.
+        ensures placed { IfOk result (λ answer. answer ≢ taken.End → self.new.place ≡ position self.new) }
+        ensures stays { IfOk result (λ answer. answer ≡ taken.End → (self.new.place ≡ self.old.place) × (self.new.trace ≡ self.old.trace)) }
         // Where the source's bytes are known, the answer is the first of the mails from the old position on, `place` is
         // its end, and the others are those from the new position on.
         ensures answer { IfOk result (λ answer. IfKnown (S.left source.old) (S.left source.new) (λ before after.
@@ -219,6 +259,10 @@ impl MboxReader {
         // What is held, followed by what the source has left, is the file from the reader's position on.
         ensures position { OnOk result (IfKnown (S.left source.old) (S.left source.new) (λ before after.
             (file : List ℕ) → IsAt file before self.old → IsAt file after self.new)) }
+        // Where the trace stands for the bytes up to the place, it does so then.
+        ensures traced { IfOk result (λ answer. IfKnown (S.left source.old) (S.left source.new) (λ before after.
+            (file : List ℕ) → IsAt file before self.old → IsTraced file self.old
+            → StandsFor self.new.trace (take self.new.place file) × (answer ≢ taken.End → IsTraced file self.new))) }
     {
         let found = self.reach(alloc, source)?;
         if !found {

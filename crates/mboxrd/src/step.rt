@@ -1,7 +1,9 @@
 //! What a reader does with the next bytes of a line.
 ghost use Rattle.std.specs.Prelude.{◌≡◌, ◌<◌, ◌≤◌, ◌&&◌, ◌==◌, ℕ, List, [], ◌∷◌, length, take, IfOk, OnOk, Some, None, true};
 ghost use Rattle.source_buffer.specs.Kept.{Keeps};
+ghost use Rattle.mboxrd.specs.Traced.{HoldsBack, held_back, holds_any};
 ghost use Rattle.mboxrd.specs.LineStates.{StepsTo, IsLineState, EndsWith, state_after, separator_may_follow, withheld_line};
+ghost use Rattle.mboxrd.specs.declared.line_state.LineState.{LineState};
 ghost use Rattle.mboxrd.specs.declared.line_state.LineState.TheVariants as state;
 ghost use Rattle.mboxrd.specs.declared.line_state.Preceding.TheVariants as before;
 
@@ -49,7 +51,8 @@ fn may_begin_separator(preceding: Preceding, b: u8) -> bool
 
 // The first byte of a line.
 fn at_start(preceding: Preceding, b: u8, mail: &mut Prefix) -> Result<LineState, Memory>
-    ensures { IfOk result (λ next. (added : List ℕ) × Keeps mail.old mail.new added × StepsTo (state.Start preceding) (b ∷ []) added (Some next)) }
+    ensures steps { IfOk result (λ next. (added : List ℕ) × Keeps mail.old mail.new added × StepsTo (state.Start preceding) (b ∷ []) added (Some next)) }
+    ensures back { IfOk result (λ next. HoldsBack (state.Start preceding) (b ∷ []) (Some next)) }
 {
     if may_begin_separator(preceding, b) {
         return Ok(LineState::From(preceding, 1));
@@ -68,7 +71,8 @@ fn at_start(preceding: Preceding, b: u8, mail: &mut Prefix) -> Result<LineState,
 
 // The state after a byte of a line that the mail has as it is.
 fn state_after(b: u8) -> LineState
-    ensures { result ≡ state_after b }
+    ensures after { result ≡ state_after b }
+    ensures back { (before : LineState) (read : List ℕ) → HoldsBack before read (Some result) }
 {
     if b == b'\n' {
         LineState::Start(Preceding::Text)
@@ -85,7 +89,8 @@ fn at_from(
     mail: &mut Prefix,
 ) -> Result<Option<LineState>, Memory>
     requires { IsLineState (state.From preceding k) }
-    ensures { IfOk result (λ next. (added : List ℕ) × Keeps mail.old mail.new added × StepsTo (state.From preceding k) (b ∷ []) added next) }
+    ensures steps { IfOk result (λ next. (added : List ℕ) × Keeps mail.old mail.new added × StepsTo (state.From preceding k) (b ∷ []) added next) }
+    ensures back { IfOk result (λ next. HoldsBack (state.From preceding k) (b ∷ []) next) }
 {
     if b == FROM[k] {
         return Ok(if k == 4 {
@@ -103,7 +108,8 @@ fn at_from(
 // The next byte after one or more `>` and the first `k` bytes of `From `.
 fn at_quote(k: usize, b: u8, mail: &mut Prefix) -> Result<LineState, Memory>
     requires { IsLineState (state.Quote k) }
-    ensures { IfOk result (λ next. (added : List ℕ) × Keeps mail.old mail.new added × StepsTo (state.Quote k) (b ∷ []) added (Some next)) }
+    ensures steps { IfOk result (λ next. (added : List ℕ) × Keeps mail.old mail.new added × StepsTo (state.Quote k) (b ∷ []) added (Some next)) }
+    ensures back { IfOk result (λ next. HoldsBack (state.Quote k) (b ∷ []) (Some next)) }
 {
     if b == FROM[k] {
         if k == 4 {
@@ -124,7 +130,8 @@ fn at_quote(k: usize, b: u8, mail: &mut Prefix) -> Result<LineState, Memory>
 
 // The next byte after a CR at the start of a line.
 fn at_cr(b: u8, mail: &mut Prefix) -> Result<LineState, Memory>
-    ensures { IfOk result (λ next. (added : List ℕ) × Keeps mail.old mail.new added × StepsTo state.Cr (b ∷ []) added (Some next)) }
+    ensures steps { IfOk result (λ next. (added : List ℕ) × Keeps mail.old mail.new added × StepsTo state.Cr (b ∷ []) added (Some next)) }
+    ensures back { IfOk result (λ next. HoldsBack state.Cr (b ∷ []) (Some next)) }
 {
     if b == b'\n' {
         return Ok(LineState::Start(Preceding::EmptyCrLf));
@@ -149,6 +156,7 @@ fn unchanged(held: &[u8]) -> Step
     ensures some { 0 < result.read }
     ensures within { result.read ≤ length held.now }
     ensures steps { StepsTo state.Inside (take result.read held.now) (take result.read held.now) result.next }
+    ensures back { HoldsBack state.Inside (take result.read held.now) result.next }
 {
     let mut read = 0;
     while let Some(end) = memchr(b'\n', &held[read..]) {
@@ -173,6 +181,7 @@ fn inside(held: &[u8], mail: &mut Prefix) -> Result<Step, Memory>
     ensures some { IfOk result (λ step. 0 < step.read) }
     ensures within { IfOk result (λ step. step.read ≤ length held.now) }
     ensures steps { IfOk result (λ step. (added : List ℕ) × Keeps mail.old mail.new added × StepsTo state.Inside (take step.read held.now) added step.next) }
+    ensures back { IfOk result (λ step. HoldsBack state.Inside (take step.read held.now) step.next) }
 {
     let step = unchanged(held);
     mail.keep(&held[..step.read])?;
@@ -185,6 +194,7 @@ fn in_separator(held: &[u8]) -> Step
     ensures some { 0 < result.read }
     ensures within { result.read ≤ length held.now }
     ensures steps { StepsTo state.Separator (take result.read held.now) [] result.next }
+    ensures back { HoldsBack state.Separator (take result.read held.now) result.next }
 {
     match memchr(b'\n', held) {
         Some(end) => Step {
@@ -215,6 +225,7 @@ pub fn read_on(state: LineState, held: &[u8], mail: &mut Prefix) -> Result<Step,
     ensures some { IfOk result (λ step. 0 < step.read) }
     ensures within { IfOk result (λ step. step.read ≤ length held.now) }
     ensures steps { IfOk result (λ step. (added : List ℕ) × Keeps mail.old mail.new added × StepsTo state (take step.read held.now) added step.next) }
+    ensures back { IfOk result (λ step. HoldsBack state (take step.read held.now) step.next) }
 {
     let b = held[0];
     match state {
@@ -250,4 +261,22 @@ pub fn finish(state: LineState, mail: &mut Prefix) -> Result<(), Memory>
             Ok(())
         }
     }
+}
+
+/// What was passed last and may be of a separator line.
+pub fn held_back(state: LineState) -> &'static [u8]
+    requires { IsLineState state }
+    ensures { result.now ≡ held_back state }
+{
+    match state {
+        LineState::From(_, k) => &FROM[..k],
+        _ => b"",
+    }
+}
+
+/// Whether anything may be of a separator line after a step, or is of one.
+pub fn holds_any(next: Option<LineState>) -> bool
+    ensures { result ≡ holds_any next }
+{
+    matches!(next, None | Some(LineState::From(_, _)))
 }

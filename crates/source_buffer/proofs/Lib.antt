@@ -1,4 +1,5 @@
 pub mod Taking
 pub mod Positions
 pub mod Dropped
+pub mod Traced
 pub mod Prefixes

@@ -1,6 +1,7 @@
 -- The bytes of a source that a buffer holds.
 use Rattle.std.specs.Prelude.{◌≡◌, ◌≤◌, ℕ, ◌+◌, ◌-◌, List, ◌++◌, length, drop, Option}
 use Rattle.std.specs.Io.KnownBytes.{Consumes}
+use Rattle.kit.specs.Chains.{Adds, Cut}
 
 -- the bytes that are held, how many were taken so far, and how many may be in all
 pub record Buffered : Type 0 where
@@ -23,9 +24,10 @@ pub record BufferTakes (left_before left_after : Option (List ℕ)) (before afte
   pub budget : after.budget ≡ before.budget
   pub within : before.taken ≤ before.budget → after.taken ≤ after.budget
 
--- so many of the bytes that were held and taken were dropped, and those after them are held
-abbrev pub Drops : List ℕ → List ℕ → ℕ → List ℕ → Type 0
-Drops held bytes count rest = (dropped : List ℕ) × (held ++ bytes ≡ dropped ++ rest) × (length dropped ≡ count)
+-- so many of the bytes that were held and taken were dropped and added to a trace, and those after them are held
+abbrev pub Drops : Cut → Cut → List ℕ → List ℕ → ℕ → List ℕ → Type 0
+Drops old new held bytes count rest =
+    (dropped : List ℕ) × (held ++ bytes ≡ dropped ++ rest) × (length dropped ≡ count) × Adds old new dropped
 
 -- what is held now is the rest of what was held and taken
 abbrev pub HoldsRest : List ℕ → List ℕ → List ℕ → Type 0

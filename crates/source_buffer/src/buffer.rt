@@ -5,7 +5,7 @@ ghost use Rattle.outside.specs.Causes.{HasCause, Rose};
 ghost use Rattle.source_buffer.specs.Buffered.{Buffered, BufferTakes, Drops, position};
 
 use crate::fault::BufferFault;
-use kit::Memory;
+use kit::{Memory, Trace};
 use outside::{Failed, Source};
 use std::alloc::Global;
 use std::marker::Model;
@@ -125,15 +125,21 @@ impl Buffer {
         Ok(self.start < self.end)
     }
 
-    /// Drops up to `count` bytes, and says how many: fewer only at the end. Takes no memory.
-    pub fn skip<S: Source>(&mut self, source: &mut S, count: u64) -> Result<u64, BufferFault>
+    /// Drops up to `count` bytes, and says how many: fewer only at the end. They are added to the trace. Takes no
+    /// memory.
+    pub fn skip<S: Source>(
+        &mut self,
+        source: &mut S,
+        count: u64,
+        trace: &mut Trace,
+    ) -> Result<u64, BufferFault>
         ensures later { S.faults source.old ≤ S.faults source.new }
         ensures read { IsErrOf result BufferFault.Read → Rose (S.faults source.old) (S.faults source.new) }
         ensures endless { IsErrOf result BufferFault.Endless → self.new.taken ≡ self.new.budget }
         ensures fewer { length self.old.held ≤ self.old.taken → length self.new.held ≤ self.new.taken }
         ensures took { (bytes : List ℕ) × BufferTakes (S.left source.old) (S.left source.new) self.old self.new bytes
             × (MatchResult result
-            (λ dropped. Drops self.old.held bytes dropped self.new.held)
+            (λ dropped. Drops trace.old trace.new self.old.held bytes dropped self.new.held)
             (λ _. (length (self.old.held ++ bytes) < count) × (self.new.held ≡ []))) }
         ensures count { IfOk result (λ dropped. dropped ≤ count) }
         ensures end { IfOk result (λ dropped. dropped < count → IsAtEnd (S.left source.new) × (self.new.held ≡ [])) }
@@ -149,6 +155,7 @@ impl Buffer {
             } else {
                 held
             };
+            trace.add(&self.held()[..some]);
             self.advance(some);
             dropped += some as u64;
         }

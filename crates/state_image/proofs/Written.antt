@@ -1,5 +1,5 @@
 -- What is written of a mailbox is its image.
-use Rattle.std.proofs.Common.{◌≡◌, ℕ, ◌+◌, ◌<◌, List, [], ◌∷◌, ◌++◌, length, take, get_or, map, Option, Some, Result, Ok, Err, refl, sym, ap, ◌∙◌, append_assoc, add-one, arith}
+use Rattle.std.proofs.Common.{◌≡◌, true, ℕ, ◌+◌, ◌<◌, List, [], ◌∷◌, ◌++◌, length, take, get_or, map, Option, Some, Result, Ok, Err, refl, sym, ap, ◌∙◌, append_assoc, add-one, arith}
 use Rattle.std.specs.Prelude.{flat_map, sum_by}
 use Rattle.std.specs.List.{AllByRecursion}
 use Rattle.std.specs.Result.{result_ok}
@@ -16,7 +16,7 @@ use Rattle.mailbox_model.specs.declared.item.Item.{Item}
 use Rattle.mailbox_model.specs.Mailbox.{Mailbox, Entry, held, item_of, card_at, entry_at, IsMailbox}
 use Rattle.mailbox_model.proofs.UidLaws.{each_found}
 use Rattle.state_image.specs.declared.position.Position.{Position}
-use Rattle.state_image.specs.Images.{name_1, position_spelled, mail_spelled, entry_spelled, held_spelled, item_spelled, names_spelled, counts_spelled, image, cards_of}
+use Rattle.state_image.specs.Images.{name_of, position_spelled, mail_spelled, entry_spelled, held_spelled, item_spelled, names_spelled, counts_spelled, image, cards_of}
 
 mail_is : (r : Result Card Fault) → held_spelled (held r) (result_ok r) ≡ mail_spelled r
 mail_is (Ok card) = refl
@@ -39,12 +39,12 @@ items_are m (e ∷ es) a =
 regrouped : (a b c d e f g : List ℕ) → a ++ (b ++ c) ++ (d ++ e ++ f) ++ g ≡ a ++ b ++ c ++ d ++ e ++ (f ++ g)
 regrouped a b c d e f g = simp append_assoc
 
-pub written_is : (m : Mailbox) (p : Position) → IsMailbox m → name_1 ++ names_spelled m p ++ counts_spelled m ++ flat_map (item_spelled m) (map item_of m.entries) ≡ image m p
+pub written_is : (m : Mailbox) (p : Position) → IsMailbox m → name_of true ++ names_spelled m p ++ counts_spelled m ++ flat_map (item_spelled m) (map item_of m.entries) ≡ image m p
 written_is m p k =
-    ap (λ (t : List ℕ). name_1 ++ names_spelled m p ++ counts_spelled m ++ t) (items_are m m.entries (each_found 1 m.next_uid m.entries k.uids))
-    ∙ regrouped name_1 (records.block m.me) (position_spelled p) (records.b64 m.now) (records.b32 m.next_uid) (records.b32 (length m.entries)) (flat_map entry_spelled m.entries)
+    ap (λ (t : List ℕ). name_of true ++ names_spelled m p ++ counts_spelled m ++ t) (items_are m m.entries (each_found 1 m.next_uid m.entries k.uids))
+    ∙ regrouped (name_of true) (records.block m.me) (position_spelled true p) (records.b64 m.now) (records.b32 m.next_uid) (records.b32 (length m.entries)) (flat_map entry_spelled m.entries)
 
-pub whole : (m : Mailbox) (p : Position) (items : List Item) (name names counts all : List ℕ) → IsMailbox m → name ≡ name_1 → names ≡ name ++ names_spelled m p
+pub whole : (m : Mailbox) (p : Position) (items : List Item) (name names counts all : List ℕ) → IsMailbox m → name ≡ name_of true → names ≡ name ++ names_spelled m p
     → counts ≡ names ++ counts_spelled m → items ≡ map item_of m.entries → all ≡ counts ++ flat_map (item_spelled m) items → all ≡ image m p
 whole m p items name names counts all k a b c i d =
     d ∙ ap (λ (l : List Item). counts ++ flat_map (item_spelled m) l) i ∙ ap (λ (t : List ℕ). t ++ flat_map (item_spelled m) (map item_of m.entries)) (c ∙ ap (λ (t : List ℕ). t ++ counts_spelled m) (b ∙ ap (λ (t : List ℕ). t ++ names_spelled m p) a))

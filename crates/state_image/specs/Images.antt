@@ -3,6 +3,7 @@ use Rattle.std.specs.Prelude.{◌≡◌, ℕ, ◌+◌, ◌-◌, ◌^◌, ◌<◌
 use Rattle.std.specs.Int.{w32, w64}
 use Rattle.std.specs.List.{starts_with}
 use Rattle.kit.specs.Addresses.{is_addr}
+use Rattle.kit.specs.Chains.{first_value}
 use Rattle.card_type.specs.Records as records
 use Rattle.card_type.specs.declared.card.Card.{Card}
 use Rattle.mailbox_model.specs.declared.change.Fault.{Fault}
@@ -11,18 +12,24 @@ use Rattle.mailbox_model.specs.declared.item.Held.TheVariants as is_held
 use Rattle.mailbox_model.specs.declared.item.Item.{Item}
 use Rattle.mailbox_model.specs.Mailbox.{Mailbox, Entry, item_of, card_at, max_entries, max_total_weight, weights, IsMailbox}
 use Rattle.box_state.specs.Kept.{Kept}
-use Rattle.card_record.specs.Reading.{◌>>=◌, Read, byte_at, number_at, ruled, block_of, moment_at, opt_of, times_of}
+use Rattle.card_record.specs.Reading.{◌>>=◌, Read, byte_at, number_at, ruled, block_of, moment_at, opt_of, run_at, times_of}
 use Rattle.card_record.specs.Cards.{record_at}
 use Rattle.state_image.specs.declared.fault.ImageFault.{ImageFault}
 use Rattle.state_image.specs.declared.fault.ImageFault.TheVariants as faults
 use Rattle.state_image.specs.declared.position.Position.{Position}
+use Rattle.state_image.specs.declared.read.Counts.{Counts}
 use Rattle.state_image.specs.declared.read.Head.{Head}
 use Rattle.state_image.specs.Faults.{code_of, fault_of}
 use Rattle.state_image.specs.Changes.{or_malformed}
 
--- the name of an image, which tells its version
-abbrev pub name_1 : List ℕ
-name_1 = codes "CHATSIM1"
+-- the name of an image, which tells its version: whether it has traces
+abbrev pub name_of : Bool → List ℕ
+name_of false = codes "CHATSIM1"
+name_of true = codes "CHATSIM2"
+
+-- in place of a trace that is not kept
+abbrev pub no_trace : List ℕ
+no_trace = first_value
 
 -- ---- spelling
 
@@ -35,13 +42,36 @@ abbrev pub entry_spelled : Entry → List ℕ
 entry_spelled entry =
     records.b32 entry.uid ++ records.b64 entry.arrival ++ records.opt records.b64 entry.seen ++ mail_spelled entry.read
 
-abbrev pub position_spelled : Position → List ℕ
-position_spelled p = records.b64 p.count ++ records.b64 p.mbox ++ records.b64 p.steps ++ records.b64 p.lines
+abbrev pub counts_of : Position → Counts
+counts_of p = record { count = p.count; mbox = p.mbox; steps = p.steps; lines = p.lines }
 
-abbrev pub image : Mailbox → Position → List ℕ
-image m p =
-    name_1 ++ records.block m.me ++ position_spelled p ++ records.b64 m.now ++ records.b32 m.next_uid
+abbrev pub position_of : Counts → List ℕ × List ℕ → Position
+position_of c traces = record { count = c.count; mbox = c.mbox; steps = c.steps; lines = c.lines; mbox_trace = traces.0; steps_trace = traces.1 }
+
+abbrev pub counts_written : Counts → List ℕ
+counts_written c = records.b64 c.count ++ records.b64 c.mbox ++ records.b64 c.steps ++ records.b64 c.lines
+
+abbrev pub traces_spelled : Bool → List ℕ × List ℕ → List ℕ
+traces_spelled false traces = []
+traces_spelled true traces = traces.0 ++ traces.1
+
+abbrev pub position_spelled : Bool → Position → List ℕ
+position_spelled traced p = counts_written (counts_of p) ++ traces_spelled traced (p.mbox_trace, p.steps_trace)
+
+-- in either version
+abbrev pub image_in : Bool → Mailbox → Position → List ℕ
+image_in traced m p =
+    name_of traced ++ records.block m.me ++ position_spelled traced p ++ records.b64 m.now ++ records.b32 m.next_uid
     ++ records.list entry_spelled m.entries
+
+-- in the version that is written
+abbrev pub image : Mailbox → Position → List ℕ
+image m p = image_in true m p
+
+-- neither input has a trace
+pub record IsUntraced (p : Position) : Type 0 where
+  pub mbox : p.mbox_trace ≡ no_trace
+  pub steps : p.steps_trace ≡ no_trace
 
 -- a position that an image has: the numbers of a position have 64 bits
 pub record IsPosition (p : Position) : Type 0 where
@@ -50,6 +80,19 @@ pub record IsPosition (p : Position) : Type 0 where
   pub mbox : p.mbox < 2 ^ 64
   pub steps : p.steps < 2 ^ 64
   pub lines : p.lines ≤ p.steps
+  pub mbox_trace : length p.mbox_trace ≡ 32
+  pub steps_trace : length p.steps_trace ≡ 32
+
+-- and in this version: one without traces where the version has none
+pub record FitsPosition (traced : Bool) (p : Position) : Type 0 where
+  pub is : IsPosition p
+  pub traces : traced ≡ false → IsUntraced p
+
+-- the bytes are an image of these, of either version
+pub record IsImage (bytes : List ℕ) (m : Mailbox) (p : Position) : Type 0 where
+  pub traced : Bool
+  pub text : bytes ≡ image_in traced m p
+  pub fits : FitsPosition traced p
 
 -- a mailbox and a position that have an image
 pub record HasImage (m : Mailbox) (p : Position) : Type 0 where
@@ -66,22 +109,38 @@ count_at bytes = ruled (λ n. nat_le 1 n && nat_le n (2 ^ 62)) (number_at w64) b
 abbrev pub lines_at : ℕ → List ℕ → Read ℕ
 lines_at steps bytes = ruled (λ n. nat_le n steps) (number_at w64) bytes
 
-unfoldable pub position_at : List ℕ → Read Position
-position_at bytes = do
+unfoldable pub counts_at : List ℕ → Read Counts
+counts_at bytes = do
   count ← count_at bytes
   mbox ← number_at w64 count.1
   steps ← number_at w64 mbox.1
   lines ← lines_at steps.0 steps.1
   Ok (record { count = count.0; mbox = mbox.0; steps = steps.0; lines = lines.0 }, lines.1)
 
+unfoldable pub both_traces_at : List ℕ → Read (List ℕ × List ℕ)
+both_traces_at bytes = do
+  mbox ← run_at 32 bytes
+  steps ← run_at 32 mbox.1
+  Ok ((mbox.0, steps.0), steps.1)
+
+abbrev pub traces_at : Bool → List ℕ → Read (List ℕ × List ℕ)
+traces_at false bytes = Ok ((no_trace, no_trace), bytes)
+traces_at true bytes = both_traces_at bytes
+
+unfoldable pub position_at : Bool → List ℕ → Read Position
+position_at traced bytes = do
+  counts ← counts_at bytes
+  traces ← traces_at traced counts.1
+  Ok (position_of counts.0 traces.0, traces.1)
+
 abbrev pub next_uid_at : List ℕ → Read ℕ
 next_uid_at bytes = ruled (λ n. nat_le 1 n) (number_at w32) bytes
 
 -- all before the items
-unfoldable pub head_at : List ℕ → Read Head
-head_at bytes = do
+unfoldable pub head_at : Bool → List ℕ → Read Head
+head_at traced bytes = do
   me ← block_of is_addr bytes
-  position ← position_at me.1
+  position ← position_at traced me.1
   moment ← moment_at position.1
   next_uid ← next_uid_at moment.1
   Ok (record { me = me.0; position = position.0; moment = moment.0; next_uid = next_uid.0 }, next_uid.1)
@@ -134,9 +193,9 @@ entries_at now next bytes = do
   times_of (entry_at now next) [] count.0 count.1
 
 -- all after the name; nothing may follow it
-unfoldable pub body_at : List ℕ → Read (Head × List Entry)
-body_at bytes = do
-  head ← head_at bytes
+unfoldable pub body_at : Bool → List ℕ → Read (Head × List Entry)
+body_at traced bytes = do
+  head ← head_at traced bytes
   entries ← entries_at head.0.moment head.0.next_uid head.1
   if length entries.1 == 0 then Ok ((head.0, entries.0), entries.1) else Err (length entries.1)
 
@@ -153,8 +212,16 @@ from_body size (Ok x) = Ok (mailbox_by x.0.0 x.0.1, x.0.0.position)
 from_body size (Err left) = Err (faults.Malformed (size - left))
 
 -- the mailbox and the position whose image these bytes are, or why they are none
+abbrev pub image_with : Bool → List ℕ → Result (Mailbox × Position) ImageFault
+image_with traced bytes = from_body (length bytes) (body_at traced (drop 8 bytes))
+
+abbrev pub begins_as : Bool → List ℕ → Bool
+begins_as traced bytes = starts_with nat_eq bytes (name_of traced)
+
 abbrev pub image_of : List ℕ → Result (Mailbox × Position) ImageFault
-image_of bytes = if starts_with nat_eq bytes name_1 then from_body (length bytes) (body_at (drop 8 bytes)) else Err faults.Version
+image_of bytes =
+    if begins_as true bytes then image_with true bytes
+    else if begins_as false bytes then image_with false bytes else Err faults.Version
 
 -- What is answered is what is read, unless memory ran out.
 abbrev pub GivesImage : Result (Kept × Position) ImageFault → Result (Mailbox × Position) ImageFault → Type 0
@@ -192,7 +259,7 @@ item_spelled m item = numbers_spelled item ++ held_spelled item.held (card_at m 
 
 -- what is between the name and the first item
 abbrev pub names_spelled : Mailbox → Position → List ℕ
-names_spelled m p = records.block m.me ++ position_spelled p
+names_spelled m p = records.block m.me ++ position_spelled true p
 
 abbrev pub counts_spelled : Mailbox → List ℕ
 counts_spelled m = records.b64 m.now ++ records.b32 m.next_uid ++ records.b32 (length m.entries)

@@ -1,12 +1,12 @@
 //! Laws of the spelling of changes and images. Each is the contract of a function that does nothing: its clauses speak of
 //! every change and every mailbox.
-ghost use Rattle.std.specs.Prelude.{◌≡◌, ℕ, Ok, List, ◌++◌};
+ghost use Rattle.std.specs.Prelude.{◌≡◌, ℕ, Ok, List, ◌++◌, false};
 ghost use Rattle.mailbox_model.specs.declared.change.Change.{Change};
 ghost use Rattle.card_record.specs.Spelling.{IsBytes};
 ghost use Rattle.mailbox_model.specs.Mailbox.{Mailbox};
 ghost use Rattle.state_image.specs.declared.position.Position.{Position};
 ghost use Rattle.state_image.specs.Changes.{change_at, change_spelled, FitsChange};
-ghost use Rattle.state_image.specs.Images.{image, image_of, HasImage};
+ghost use Rattle.state_image.specs.Images.{image, image_in, image_of, HasImage, IsImage, IsUntraced};
 
 /// A valid change has one spelling, and a spelling is that of one change.
 ///
@@ -25,13 +25,16 @@ pub fn each_change_has_one_spelling()
 /// A mailbox and a position together have one image, and an image is that of one mailbox and one position.
 ///
 /// - `read`: their image is read as these.
-/// - `spelled`: bytes that are read as a mailbox and a position are their image, and these keep their rules.
+/// - `old`: so is their image without traces, where the position has none.
+/// - `spelled`: bytes that are read as a mailbox and a position are an image of them, and these keep their rules.
 /// - `once`: where the images of two are equal, the mailboxes are one and the positions are.
 pub fn each_mailbox_has_one_image()
     ensures read { (m : Mailbox) (position : Position) → HasImage m position
         → image_of (image m position) ≡ Ok (m, position) }
     ensures spelled { (bytes : List ℕ) (m : Mailbox) (position : Position) → IsBytes bytes
-        → image_of bytes ≡ Ok (m, position) → HasImage m position × (bytes ≡ image m position) }
+        → image_of bytes ≡ Ok (m, position) → HasImage m position × IsImage bytes m position }
+    ensures old { (m : Mailbox) (position : Position) → HasImage m position → IsUntraced position
+        → image_of (image_in false m position) ≡ Ok (m, position) }
     ensures once { (m n : Mailbox) (p q : Position) → HasImage m p → HasImage n q
         → image m p ≡ image n q → (m ≡ n) × (p ≡ q) }
 {}

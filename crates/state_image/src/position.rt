@@ -14,4 +14,8 @@ pub struct Position {
     pub steps: u64,
     /// The number of lines of the steps file before that offset; in an image at most `steps`.
     pub lines: u64,
+    /// The chain of the mbox up to that offset, or 32 zero bytes where none was kept.
+    pub mbox_trace: [u8; 32],
+    /// The chain of the steps file up to its offset, or 32 zero bytes where none was kept.
+    pub steps_trace: [u8; 32],
 }

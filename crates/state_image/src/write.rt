@@ -1,9 +1,9 @@
 //! Images, written.
-ghost use Rattle.std.specs.Prelude.{◌≡◌, ◌<◌, ◌≤◌, ◌+◌, ◌^◌, ◌++◌, IfOk, OnOk, flat_map, IsTrue, Ok, sum_by};
+ghost use Rattle.std.specs.Prelude.{◌≡◌, ◌<◌, ◌≤◌, ◌+◌, ◌^◌, ◌++◌, IfOk, OnOk, flat_map, length, true, IsTrue, Ok, sum_by};
 ghost use Rattle.kit.specs.Addresses.{is_addr};
 ghost use Rattle.card_type.specs.Records as records;
 ghost use Rattle.mailbox_model.specs.Mailbox.{card_at, IsMailbox};
-ghost use Rattle.state_image.specs.Images.{image, image_of, position_spelled, held_spelled, numbers_spelled, item_spelled, names_spelled, counts_spelled, cards_of, cards_in};
+ghost use Rattle.state_image.specs.Images.{image, image_of, counts_of, counts_written, position_spelled, traces_spelled, held_spelled, numbers_spelled, item_spelled, names_spelled, counts_spelled, cards_of, cards_in};
 
 use crate::fault_code::code_of;
 use crate::position::Position;
@@ -14,11 +14,11 @@ use kit::{Memory, Steps};
 use std::alloc::Global;
 use std::sync::ledger::Ledger;
 
-/// Appends a position.
+/// Appends the numbers of a position.
 ///
 /// By the clause `wide` its offsets have 64 bits, as their type says.
-fn push_position(out: &mut Vec<u8>, position: &Position) -> Result<(), Memory>
-    ensures text { OnOk result (out.new.items ≡ out.old.items ++ position_spelled position.now) }
+fn push_places(out: &mut Vec<u8>, position: &Position) -> Result<(), Memory>
+    ensures text { OnOk result (out.new.items ≡ out.old.items ++ counts_written (counts_of position.now)) }
     ensures wide { (position.now.mbox < 2 ^ 64) × (position.now.steps < 2 ^ 64) }
 {
     let Position {
@@ -26,11 +26,33 @@ fn push_position(out: &mut Vec<u8>, position: &Position) -> Result<(), Memory>
         mbox,
         steps,
         lines,
+        mbox_trace: _,
+        steps_trace: _,
     } = *position;
     count.write(out)?;
     mbox.write(out)?;
     steps.write(out)?;
     lines.write(out)
+}
+
+/// Appends the traces of a position, of 32 bytes each, as their type says.
+fn push_traces(out: &mut Vec<u8>, position: &Position) -> Result<(), Memory>
+    ensures text { OnOk result (out.new.items ≡ out.old.items ++ traces_spelled true (position.now.mbox_trace, position.now.steps_trace)) }
+    ensures traces { (length position.now.mbox_trace ≡ 32) × (length position.now.steps_trace ≡ 32) }
+{
+    out.extend_from_slice(&position.mbox_trace)?;
+    out.extend_from_slice(&position.steps_trace)?;
+    Ok(())
+}
+
+/// Appends a position.
+fn push_position(out: &mut Vec<u8>, position: &Position) -> Result<(), Memory>
+    ensures text { OnOk result (out.new.items ≡ out.old.items ++ position_spelled true position.now) }
+    ensures wide { OnOk result ((position.now.mbox < 2 ^ 64) × (position.now.steps < 2 ^ 64)) }
+    ensures traces { OnOk result ((length position.now.mbox_trace ≡ 32) × (length position.now.steps_trace ≡ 32)) }
+{
+    push_places(out, position)?;
+    push_traces(out, position)
 }
 
 /// Appends what an item holds: a card is read from the mailbox.
@@ -106,6 +128,7 @@ fn push_names(out: &mut Vec<u8>, mailbox: &Mailbox, position: &Position) -> Resu
     ensures rules { IsMailbox mailbox.now.mailbox }
     ensures me { IsTrue (is_addr mailbox.now.mailbox.me) }
     ensures wide { OnOk result ((position.now.mbox < 2 ^ 64) × (position.now.steps < 2 ^ 64)) }
+    ensures traces { OnOk result ((length position.now.mbox_trace ≡ 32) × (length position.now.steps_trace ≡ 32)) }
 {
     write_block(out, mailbox.me().bytes())?;
     push_position(out, position)?;

@@ -9,6 +9,7 @@ use Rattle.card_record.specs.Reading.{◌>>=◌}
 use Rattle.checkpoint.specs.Slots.{chosen_of}
 use Rattle.checkpoint.specs.Kept.{number_of}
 use Rattle.tail_journal.specs.Groups.{Applied, Reading, reading}
+use Rattle.tail_journal.specs.Spelling.{group_head}
 use Rattle.tail_journal.specs.Tails.{read_back, with_last, ReadsAll, IsNext, KeepsOrAdds, Adds}
 use Rattle.tail_journal.specs.Read.{groups_from, EndsThere}
 use Rattle.state_store.specs.States.{State}
@@ -27,7 +28,7 @@ module _ (me : Bytes) (new : State) (group : List ℕ) (x : Places) (a : Appends
   last = read_back r.end a.batch
 
   one_group : after_group a.leads.committed last ≡ Ok new
-  one_group = ap (λ (y : Result Mailbox ℕ). y >>= λ m. Ok (record { mailbox = m; position = a.batch.position })) (all_made a.leads.committed.mailbox (r.end + 39) a.batch.changes a.leads.allowed)
+  one_group = ap (λ (y : Result Mailbox ℕ). y >>= λ m. Ok (record { mailbox = m; position = a.batch.position })) (all_made a.leads.committed.mailbox (r.end + group_head) a.batch.changes a.leads.allowed)
       ∙ (λ i. Ok (record { mailbox = sym a.leads.mailbox i; position = sym a.leads.position i }))
 
   -- where the new group is read too, the new state stands

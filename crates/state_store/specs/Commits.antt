@@ -10,7 +10,7 @@ use Rattle.checkpoint.specs.Slots.{chosen_of}
 use Rattle.checkpoint.specs.Saves.{IsAbove}
 use Rattle.checkpoint.specs.Kept.{number_of}
 use Rattle.tail_journal.specs.Groups.{Reading}
-use Rattle.tail_journal.specs.Spelling.{Batch, IsBatch, AreSpelled, group_spelled}
+use Rattle.tail_journal.specs.Spelling.{Batch, IsBatch, AreSpelled, group_spelled, group_head}
 use Rattle.tail_journal.specs.Tails.{ReadsAll}
 use Rattle.state_store.specs.States.{State}
 use Rattle.state_store.specs.Stands.{stands}
@@ -28,24 +28,25 @@ pub record Fill : Type 0 where
 abbrev pub fill_of : Store → Fill
 fill_of store = record { chosen = store.chosen; tail = store.tail.size }
 
--- A checkpoint falls due where no slot is chosen, or where the tail would have more bytes than it may with the new group.
+-- A checkpoint falls due where no slot is chosen, or where the tail would have more bytes than it may with the group of
+-- changes that have so many bytes.
 abbrev pub falls_due : Fill → ℕ → Bool
-falls_due fill group = not fill.chosen || nat_lt max_tail (fill.tail + group)
+falls_due fill size = not fill.chosen || nat_lt max_tail (fill.tail + (group_head + size))
 
--- with the group of a commit: a checkpoint clears the tail
+-- after a commit of changes that have so many bytes: a checkpoint clears the tail
 abbrev pub fill_with : Fill → ℕ → Fill
-fill_with fill group =
-    if falls_due fill group then record { chosen = true; tail = 0 } else record { chosen = fill.chosen; tail = fill.tail + group }
+fill_with fill size =
+    if falls_due fill size then record { chosen = true; tail = 0 } else record { chosen = fill.chosen; tail = fill.tail + (group_head + size) }
 
 -- ---- what a commit costs
 
 -- It leads to this state by changes that have so many bytes. For an image it reads each kept card once, and for a group none.
 abbrev pub commit_reads : Fill → ℕ → State → ℕ
-commit_reads fill size s = if falls_due fill (39 + size) then cards_in s.mailbox else 0
+commit_reads fill size s = if falls_due fill size then cards_in s.mailbox else 0
 
--- It writes an image and 18 bytes more, or a group, which has 39 bytes beside its changes, and one byte more.
+-- It writes an image and 18 bytes more, or a group, with what it has before its changes, and one byte more.
 abbrev pub commit_writes : Fill → ℕ → State → ℕ
-commit_writes fill size s = if falls_due fill (39 + size) then length (image s.mailbox s.position) + 18 else 40 + size
+commit_writes fill size s = if falls_due fill size then length (image s.mailbox s.position) + 18 else group_head + 1 + size
 
 -- ---- what it leaves
 

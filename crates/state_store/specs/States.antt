@@ -4,13 +4,14 @@ use Rattle.mailbox_model.specs.Lists.{Bytes}
 use Rattle.mailbox_model.specs.Mailbox.{Mailbox, empty_mailbox}
 use Rattle.box_state.specs.Kept.{Kept}
 use Rattle.state_image.specs.declared.position.Position.{Position}
+use Rattle.state_image.specs.Images.{no_trace}
 
 pub record State : Type 0 where
   pub mailbox : Mailbox
   pub position : Position
 
 abbrev pub first_position : Position
-first_position = record { count = 0; mbox = 0; steps = 0; lines = 0 }
+first_position = record { count = 0; mbox = 0; steps = 0; lines = 0; mbox_trace = no_trace; steps_trace = no_trace }
 
 -- nothing was followed yet
 abbrev pub first_state : Bytes → State

@@ -1,6 +1,5 @@
 -- What a store knows of its shelf, and what an opening answers.
 use Rattle.std.specs.Prelude.{◌≡◌, ℕ, List, map, Option, None, Some, is_some, Result, Ok, Err}
-use Rattle.outside.specs.declared.shelf.Place.TheVariants.{T}
 use Rattle.outside.specs.Places.{Places}
 use Rattle.checkpoint.specs.Slots.{chosen_of}
 use Rattle.checkpoint.specs.Kept.{number_of, seen_kept}

@@ -6,6 +6,7 @@ ghost use Rattle.outside.specs.Moments.{LeavesOnly, Reached, WhereKnown, KnownTh
 ghost use Rattle.mailbox_model.specs.Lists.{Bytes};
 ghost use Rattle.state_image.specs.Images.{image, image_of, cards_in};
 ghost use Rattle.tail_journal.specs.Pending.{none_pending};
+ghost use Rattle.tail_journal.specs.Spelling.{group_head};
 ghost use Rattle.tail_journal.specs.Tails.{IsGroup};
 ghost use Rattle.state_store.specs.States.{State};
 ghost use Rattle.state_store.specs.Stands.{stands};
@@ -48,23 +49,24 @@ pub fn checkpoint<H: Shelf>(
     store: &mut Store,
     shelf: &mut H,
     number: u64,
-    image: &[u8],
+    bytes: &[u8],
 ) -> Result<(), DiskFault>
     requires stored { WhereKnown (H.seen shelf.old) (IsStored store.old (H.may_leave shelf.old)) }
     requires later { WhereKnown (H.seen shelf.old) (IsLater number) }
     ensures any_moment { WhereKnown (H.seen shelf.old) (λ _. (me : Bytes) (new : State)
-        → image_of image.now ≡ Ok (new.mailbox, new.position) → new.position.count ≡ number
+        → bytes.now ≡ image new.mailbox new.position → image_of bytes.now ≡ Ok (new.mailbox, new.position) → new.position.count ≡ number
         → LeavesOnly H.moment H.left_since shelf.old shelf.new (Reached (H.may_leave shelf.old) (OldOrNew me new))) }
     ensures lasting { OnOk result (KnownThen (H.seen shelf.old) (H.seen shelf.new) (λ _ after. (me : Bytes) (new : State)
-        → image_of image.now ≡ Ok (new.mailbox, new.position) → new.position.count ≡ number → stands me after ≡ Ok new)) }
+        → bytes.now ≡ image new.mailbox new.position → image_of bytes.now ≡ Ok (new.mailbox, new.position) → new.position.count ≡ number
+        → stands me after ≡ Ok new)) }
     ensures stored { OnOk result (WhereKnown (H.seen shelf.new) (IsStored store.new (H.may_leave shelf.new))) }
     ensures fill { OnOk result (fill_of store.new ≡ record { chosen = true; tail = 0 }) }
-    ensures written { RisesUpTo (length image.now + 18) (H.written shelf.old) (H.written shelf.new) }
+    ensures written { RisesUpTo (length bytes.now + 18) (H.written shelf.old) (H.written shelf.new) }
     ensures cause { HasCause (H.faults shelf.old) (H.faults shelf.new) result }
 {
     each_mailbox_has_one_image();
     a_saved_image_is_kept();
-    store.slots.save(shelf, number, image)?;
+    store.slots.save(shelf, number, bytes)?;
     store.tail.clear(shelf)?;
     store.chosen = true;
     Ok(())
@@ -81,15 +83,15 @@ pub fn append_pending<H: Shelf>(
     requires batch { MakeBatch position pending.old.count pending.old.bytes }
     requires leads { WhereKnown (H.seen shelf.old) (λ places. (me : Bytes) × (new : State) × (new.position ≡ position) × Commits me new pending.old.count pending.old.bytes places) }
     requires chosen { store.old.chosen ≡ true }
-    requires small { store.old.tail.size + (39 + length pending.old.bytes) ≤ 2 ^ 62 }
+    requires small { store.old.tail.size + (group_head + length pending.old.bytes) ≤ 2 ^ 62 }
     ensures any_moment { WhereKnown (H.seen shelf.old) (λ places. (me : Bytes) (new : State) → new.position ≡ position → Commits me new pending.old.count pending.old.bytes places
         → LeavesOnly H.moment H.left_since shelf.old shelf.new (Reached (H.may_leave shelf.old) (OldOrNew me new))) }
     ensures lasting { OnOk result (KnownThen (H.seen shelf.old) (H.seen shelf.new) (λ places after.
         (me : Bytes) (new : State) → new.position ≡ position → Commits me new pending.old.count pending.old.bytes places → stands me after ≡ Ok new)) }
     ensures stored { OnOk result (WhereKnown (H.seen shelf.new) (IsStored store.new (H.may_leave shelf.new))) }
-    ensures fill { OnOk result (fill_of store.new ≡ record { chosen = true; tail = store.old.tail.size + (39 + length pending.old.bytes) }) }
+    ensures fill { OnOk result (fill_of store.new ≡ record { chosen = true; tail = store.old.tail.size + (group_head + length pending.old.bytes) }) }
     ensures none { pending.new ≡ none_pending }
-    ensures written { RisesUpTo (40 + length pending.old.bytes) (H.written shelf.old) (H.written shelf.new) }
+    ensures written { RisesUpTo (group_head + 1 + length pending.old.bytes) (H.written shelf.old) (H.written shelf.new) }
     ensures cause { HasCause (H.faults shelf.old) (H.faults shelf.new) result }
 {
     let group = pending.seal(position);

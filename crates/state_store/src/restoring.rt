@@ -25,6 +25,8 @@ const FIRST_POSITION: Position = Position {
     mbox: 0,
     steps: 0,
     lines: 0,
+    mbox_trace: [0; 32],
+    steps_trace: [0; 32],
 };
 
 /// Makes a change that is kept at this offset of the tail. `Damaged` comes exactly where the mailbox has no place for it.

@@ -88,7 +88,7 @@ impl Store {
     /// Whether so many bytes of changes are saved with an image, and not appended as a group: no slot is chosen, or the
     /// tail would have more than 8,388,608 bytes with them.
     fn is_due(&self, changes: usize) -> bool
-        ensures { result ≡ falls_due (fill_of self.now) (39 + changes) }
+        ensures { result ≡ falls_due (fill_of self.now) changes }
     {
         let group = (GROUP_HEAD as u64).saturating_add(changes as u64);
         !self.chosen || MAX_TAIL < self.tail.size().saturating_add(group)
@@ -104,7 +104,7 @@ impl Store {
     /// - `any_moment`: a crash at any moment leaves the state of before or the new one.
     /// - `lasting`, `stored`: after Ok the new state stands, and the shelf is settled for the store, so that it alone is left.
     /// - `fill`: after Ok the tail has the group too, or after a checkpoint nothing.
-    /// - `written`: no more is written than 40 bytes beside the changes, or where a checkpoint falls due 18 beside the image.
+    /// - `written`: no more is written than 104 bytes beside the changes, or where a checkpoint falls due 18 beside the image.
     /// - `reads`: an image reads each kept card once, and a group none.
     pub fn commit<H: Shelf, L: Ledger>(
         &mut self,
@@ -124,10 +124,10 @@ impl Store {
         ensures lasting { OnOk result (KnownThen (H.seen shelf.old) (H.seen shelf.new) (λ _ after.
             stands mailbox.now.mailbox.me after ≡ Ok (record { mailbox = mailbox.now.mailbox; position = position }))) }
         ensures stored { OnOk result (WhereKnown (H.seen shelf.new) (IsStored self.new (H.may_leave shelf.new))) }
-        ensures fill { OnOk result (fill_of self.new ≡ fill_with (fill_of self.old) (39 + length pending.old.bytes)) }
+        ensures fill { OnOk result (fill_of self.new ≡ fill_with (fill_of self.old) (length pending.old.bytes)) }
         ensures none { OnOk result (pending.new ≡ none_pending) }
         ensures fewer { pending.new.count ≤ pending.old.count }
-        ensures no_memory { falls_due (fill_of self.old) (39 + length pending.old.bytes) ≡ false → IfErr result (λ why. why ≢ fault.Memory) }
+        ensures no_memory { falls_due (fill_of self.old) (length pending.old.bytes) ≡ false → IfErr result (λ why. why ≢ fault.Memory) }
         ensures untouched { IsErrOf result StateFault.Memory → shelf.new ≡ shelf.old }
         ensures written { RisesUpTo (commit_writes (fill_of self.old) (length pending.old.bytes) (record { mailbox = mailbox.now.mailbox; position = position }))
             (H.written shelf.old) (H.written shelf.new) }

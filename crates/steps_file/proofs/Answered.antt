@@ -4,6 +4,7 @@ use Rattle.std.proofs.lemmas.List.{append-nil}
 use Rattle.std.specs.Io.KnownBytes.{IsAtEnd}
 use Rattle.kit.specs.Lines.{content}
 use Rattle.source_buffer.specs.Buffered.{Buffered, BufferTakes, Drops, position as at}
+use Rattle.kit.specs.Chains.{Cut}
 use Rattle.source_buffer.specs.Known.{IfKnown}
 use Rattle.source_buffer.proofs.Positions.{moved, at_position}
 use Rattle.source_buffer.proofs.Taking.{held_on}
@@ -55,8 +56,8 @@ answer_known (Some l) (Some m) old new p answer takes end answers =
 
 -- ---- a reader whose buffer was this one
 
-abbrev pub reading : Buffered → ℕ → Bool → Reading
-reading b place refused = record { held = b.held; place = place; taken = b.taken; budget = b.budget; refused = refused }
+abbrev pub reading : Buffered → ℕ → Bool → Cut → Reading
+reading b place refused trace = record { held = b.held; place = place; taken = b.taken; budget = b.budget; refused = refused; trace = trace }
 
 -- how far it moved, and that what it holds was taken after its place
 pub passes : (l m : Option (List ℕ)) (f b : Buffered) (place : ℕ) (bytes passed : List ℕ) → place + length f.held ≤ f.taken → BufferTakes l m f b bytes → f.held ++ bytes ≡ passed ++ b.held
@@ -65,23 +66,23 @@ passes l m f b place bytes passed fits took held =
     let count : length f.held + length bytes ≡ length passed + length b.held = omega (arith, ap length held, length-append f.held bytes, length-append passed b.held) in
     (moved l m f b bytes passed (omega (arith, fits)) (omega (arith, fits, count, took.taken)) took held, omega (arith, fits, count, took.taken))
 
-abbrev Answers : Option (List ℕ) → Option (List ℕ) → Reading → Reading → Taken → Type 0
-Answers l m old new answer = (bytes : List ℕ) × Takes l m old new bytes × (Decides old bytes answer new × HoldsRest old bytes new)
+abbrev Answers : Option (List ℕ) → Option (List ℕ) → Reading → Reading → List ℕ → Taken → Type 0
+Answers l m old new bytes answer = Takes l m old new bytes × (Decides old bytes answer new × HoldsRest old bytes new)
 
 pub line_answer : (l m : Option (List ℕ)) (old new : Reading) (f : Buffered) (bytes passed line : List ℕ) (answer : Taken) → f ≡ buffered old → BufferTakes l m f (buffered new) bytes
     → f.held ++ bytes ≡ passed ++ new.held → line ≡ take 23 passed → IsLineAt true passed → new.place ≡ old.place + length passed → answer ≡ answer_of (step_of (content line))
-    → Answers l m old new answer
+    → Answers l m old new bytes answer
 line_answer l m old new f bytes passed line answer is took held kept one place says =
     let P : Buffered → Type 0 = λ b. BufferTakes l m b (buffered new) bytes × (b.held ++ bytes ≡ passed ++ new.held) in
     let h = subst P is (took, held) in
-    (bytes, h.0, (line_decides old new bytes passed line answer h.1 one kept place says, (passed, h.1)))
+    (h.0, (line_decides old new bytes passed line answer h.1 one kept place says, (passed, h.1)))
 
 pub end_answer : (l m : Option (List ℕ)) (old new : Reading) (f : Buffered) (bytes passed : List ℕ) → f ≡ buffered old → BufferTakes l m f (buffered new) bytes
-    → f.held ++ bytes ≡ passed ++ new.held → HasNoLf passed → new.held ≡ [] → new.place ≡ old.place → Answers l m old new taken.End
+    → f.held ++ bytes ≡ passed ++ new.held → HasNoLf passed → new.held ≡ [] → new.place ≡ old.place → Answers l m old new bytes taken.End
 end_answer l m old new f bytes passed is took held none nothing place =
     let P : Buffered → Type 0 = λ b. BufferTakes l m b (buffered new) bytes × (b.held ++ bytes ≡ passed ++ new.held) in
     let h = subst P is (took, held) in
-    (bytes, h.0, (end_decides old new bytes passed h.1 none nothing place, (passed, h.1)))
+    (h.0, (end_decides old new bytes passed h.1 none nothing place, (passed, h.1)))
 
 pub no_answer : (l m : Option (List ℕ)) (old new : Reading) (f : Buffered) (bytes : List ℕ) → f ≡ buffered old → BufferTakes l m f (buffered new) bytes → HasNoLf (f.held ++ bytes)
     → Takes l m old new bytes × (ended_lines (old.held ++ bytes) ≡ [])
@@ -98,7 +99,7 @@ stays_at l m old new f place bytes passed is fits took held =
     let P : Buffered → Type 0 = λ b. IfKnown l m (λ before after. (file : List ℕ) → b.held ++ before ≡ drop (at b) file → IsAt file after new) in
     subst P is (at_position l m f (buffered new) bytes (omega (arith, fits)) fewer took (passed, held))
 
-pub skipped : (l m : Option (List ℕ)) (old new : Reading) (f : Buffered) (place : ℕ) (bytes : List ℕ) (n : ℕ) → f ≡ buffered old → place + length f.held ≤ f.taken → BufferTakes l m f (buffered new) bytes
-    → Drops f.held bytes n new.held → position new ≡ position old + n
-skipped l m old new f place bytes n is fits took drops =
+pub skipped : (l m : Option (List ℕ)) (old new : Reading) (f : Buffered) (i j : Cut) (place : ℕ) (bytes : List ℕ) (n : ℕ) → f ≡ buffered old → place + length f.held ≤ f.taken → BufferTakes l m f (buffered new) bytes
+    → Drops i j f.held bytes n new.held → position new ≡ position old + n
+skipped l m old new f i j place bytes n is fits took drops =
     omega (arith, (passes l m f (buffered new) place bytes drops.0 fits took drops.1).0, ap at is, drops.2)

@@ -1,5 +1,6 @@
 -- What a reader of a steps file answers.
 use Rattle.std.specs.Prelude.{◌≡◌, ℕ, ◌+◌, List, [], ◌∷◌, ◌++◌, length, Option, Some, None}
+use Rattle.kit.specs.Chains.{Adds}
 use Rattle.kit.specs.Lines.{content}
 use Rattle.source_buffer.specs.Buffered as buffer
 use Rattle.steps_file.specs.declared.step.Step.{Step}
@@ -36,3 +37,12 @@ Decides old bytes answer new = (rest : List ℕ) → MayFollow answer rest
 -- what is held now is the rest of what was held and taken
 abbrev pub HoldsRest : Reading → List ℕ → Reading → Type 0
 HoldsRest old bytes new = buffer.HoldsRest old.held bytes new.held
+
+-- what was passed of what was held and taken was added to the trace
+abbrev pub Goes : Reading → List ℕ → Reading → Type 0
+Goes old bytes new = (passed : List ℕ) × (old.held ++ bytes ≡ passed ++ new.held) × Adds old.trace new.trace passed
+
+-- the same up to the end of a line, and nothing where there is none
+abbrev pub GoesBy : Taken → Reading → List ℕ → Reading → Type 0
+GoesBy taken.End old bytes new = new.trace ≡ old.trace
+GoesBy _ old bytes new = Goes old bytes new

@@ -8,8 +8,9 @@ ghost use Rattle.source_buffer.specs.Buffered.{Drops};
 ghost use Rattle.source_buffer.specs.Known.{IfKnown};
 ghost use Rattle.steps_file.specs.Lines.{ended_lines};
 ghost use Rattle.steps_file.specs.Steps.{step_of};
-ghost use Rattle.steps_file.specs.Reading.{IsAt, Takes, position};
-ghost use Rattle.steps_file.specs.Answers.{IsNext, Decides, HoldsRest, answer_of};
+ghost use Rattle.kit.specs.Chains.{StandsFor, chain, no_cut, value_of};
+ghost use Rattle.steps_file.specs.Reading.{IsAt, IsTraced, Takes, position};
+ghost use Rattle.steps_file.specs.Answers.{IsNext, Decides, GoesBy, HoldsRest, answer_of};
 ghost use Rattle.steps_file.specs.declared.step.Step.TheVariants as step;
 ghost use Rattle.steps_file.specs.declared.taken.Taken.TheVariants as taken;
 
@@ -17,7 +18,7 @@ use crate::line_start::LineStart;
 use crate::passing::pass_line;
 use crate::step::step_of;
 use crate::taken::Taken;
-use kit::{Memory, content};
+use kit::{Memory, Trace, content};
 use outside::Source;
 use source_buffer::{Buffer, BufferFault};
 use std::alloc::Global;
@@ -37,6 +38,8 @@ pub struct StepsReader {
     buffer: Buffer,
     place: u64,
     refused: bool,
+    // Of the bytes up to the place.
+    trace: Trace,
 }
 
 impl Model for StepsReader {
@@ -51,6 +54,7 @@ impl Model for StepsReader {
       taken = reader.buffer.taken;
       budget = reader.buffer.budget;
       refused = reader.refused;
+      trace = reader.trace;
     } };
 
     ghost invariant = { λ reader. reader.place + length reader.buffer.held ≤ reader.buffer.taken };
@@ -72,19 +76,22 @@ impl StepsReader {
     pub fn new(alloc: Global, chunk_len: usize, budget: u64) -> Result<StepsReader, Memory>
         requires some { 1 ≤ chunk_len }
         requires limit { chunk_len ≤ 1048576 }
-        ensures { IfOk result (λ reader. reader ≡ record {
+        ensures value { IfOk result (λ reader. reader ≡ record {
           held = [];
           place = 0;
           taken = 0;
           budget = budget;
           refused = false;
+          trace = no_cut;
         }) }
+        ensures traced { IfOk result (λ reader. (file : List ℕ) → IsTraced file reader) }
     {
         let buffer = Buffer::new(alloc, chunk_len, budget)?;
         Ok(StepsReader {
             buffer,
             place: 0,
             refused: false,
+            trace: Trace::new(),
         })
     }
 
@@ -94,6 +101,14 @@ impl StepsReader {
         ensures { result ≡ self.now.place }
     {
         self.place
+    }
+
+    /// The chain of the bytes up to `place` ([`kit::Trace`]). Takes no memory.
+    pub fn trace(&self) -> [u8; 32]
+        ensures value { result ≡ value_of self.now.trace }
+        ensures chain { (file : List ℕ) → StandsFor self.now.trace (take self.now.place file) → result ≡ chain (take self.now.place file) }
+    {
+        self.trace.value()
     }
 
     /// Passes over up to `count` bytes, and says how many: fewer only at the end. The bytes after them begin a
@@ -109,7 +124,7 @@ impl StepsReader {
         // These bytes were taken of the source, and at Err they and what was held were too few.
         ensures took { (bytes : List ℕ) × Takes (S.left source.old) (S.left source.new) self.old self.new bytes
             × (MatchResult result
-            (λ dropped. Drops self.old.held bytes dropped self.new.held)
+            (λ dropped. Drops self.old.trace self.new.trace self.old.held bytes dropped self.new.held)
             (λ _. length (self.old.held ++ bytes) < count)) }
         ensures count { IfOk result (λ dropped. dropped ≤ count) }
         ensures end { IfOk result (λ dropped. dropped < count → IsAtEnd (S.left source.new) × (self.new.held ≡ [])) }
@@ -120,9 +135,12 @@ impl StepsReader {
         // What is held, followed by what the source has left, is the file from the reader's position on.
         ensures position { OnOk result (IfKnown (S.left source.old) (S.left source.new) (λ before after.
             (file : List ℕ) → IsAt file before self.old → IsAt file after self.new)) }
+        // Where the trace stands for the bytes up to the place, it does so then.
+        ensures traced { OnOk result (IfKnown (S.left source.old) (S.left source.new) (λ before after.
+            (file : List ℕ) → IsAt file before self.old → IsTraced file self.old → IsTraced file self.new)) }
     {
         self.refused = true;
-        let dropped = self.buffer.skip(source, count)?;
+        let dropped = self.buffer.skip(source, count, &mut self.trace)?;
         self.refused = false;
         self.place = self.buffer.position();
         Ok(dropped)
@@ -143,7 +161,7 @@ impl StepsReader {
         // them.
         ensures took { (bytes : List ℕ) × Takes (S.left source.old) (S.left source.new) self.old self.new bytes
             × (MatchResult result
-            (λ answer. Decides self.old bytes answer self.new × HoldsRest self.old bytes self.new)
+            (λ answer. Decides self.old bytes answer self.new × HoldsRest self.old bytes self.new × GoesBy answer self.old bytes self.new)
             (λ _. ended_lines (self.old.held ++ bytes) ≡ [])) }
         ensures end { IfOk result (λ answer. answer ≡ taken.End → IsAtEnd (S.left source.new) × (self.new.held ≡ [])) }
         ensures passed { IfOk result (λ answer. answer ≢ taken.End → self.old.place < self.new.place) }
@@ -157,15 +175,22 @@ impl StepsReader {
         // What is held, followed by what the source has left, is the file from the reader's position on.
         ensures position { OnOk result (IfKnown (S.left source.old) (S.left source.new) (λ before after.
             (file : List ℕ) → IsAt file before self.old → IsAt file after self.new)) }
+        // Where the trace stands for the bytes up to the place, it does so then.
+        ensures traced { IfOk result (λ answer. IfKnown (S.left source.old) (S.left source.new) (λ before after.
+            (file : List ℕ) → IsAt file before self.old → IsTraced file self.old
+            → StandsFor self.new.trace (take self.new.place file) × (answer ≢ taken.End → IsTraced file self.new))) }
     {
         self.refused = true;
         let start = self.buffer.position();
         let mut line = LineStart::new();
-        let ended = pass_line(&mut self.buffer, source, &mut line)?;
+        let mut trace = self.trace.copy();
+        let ended = pass_line(&mut self.buffer, source, &mut line, &mut trace)?;
         self.refused = false;
         if !ended {
+            // The place stays, and so does its trace.
             return Ok(Taken::End);
         }
+        self.trace = trace;
         self.place += self.buffer.position() - start;
         Ok(answer_of(line.bytes()))
     }

@@ -6,11 +6,13 @@ use Rattle.std.specs.List.{AllByRecursion}
 use Rattle.std.specs.Int.{w16, w64}
 use Rattle.mailbox_model.specs.declared.change.Change.{Change}
 use Rattle.card_record.specs.Reading.{number_at}
-use Rattle.state_image.specs.Images.{lines_at}
+use Rattle.state_image.specs.Images.{lines_at, traces_at}
+use Rattle.tail_journal.specs.declared.body.Few.{Few}
+use Rattle.tail_journal.proofs.SpellingLaws.{few_is}
 use Rattle.tail_journal.specs.declared.body.Head.{Head}
 use Rattle.card_record.proofs.FieldLaws.{bind_ok, rule_ok, ok_is}
 use Rattle.tail_journal.specs.Frames.{Frame, frame_size, total_size, body_size, is_whole, frame_of, frames_after, frames}
-use Rattle.tail_journal.specs.Groups.{Applied, Reading, few_at, offsets_at, head_at, changes_at, alone, body_at, position_after, placed, within_limit, nothing_more, with_first, applied, reading_on}
+use Rattle.tail_journal.specs.Groups.{Applied, Reading, few_at, few_of, offsets_at, head_at, changes_at, alone, body_at, position_after, placed, within_limit, nothing_more, with_first, applied, reading_on}
 use Rattle.tail_journal.specs.Tails.{ReadsAll, AppliesNothing}
 use Rattle.tail_journal.proofs.FrameLaws.{and_left, and_right, le_of, total_fits, whole_of}
 use Rattle.tail_journal.proofs.ReadingLaws.{skipped, applies, stops, ends_within}
@@ -55,20 +57,20 @@ none_applied (f ∷ fs) at count b =
 
 -- ---- a group that is applied has a change
 
-few_some : (bytes : List ℕ) (x : ℕ × List ℕ) → few_at bytes ≡ Ok x → 1 ≤ x.0
+few_some : (bytes : List ℕ) (x : Few × List ℕ) → few_at bytes ≡ Ok x → 1 ≤ x.0.changes
 few_some bytes x e =
-    let b = bind_ok (number_at w16 bytes) _ x e in
-    let r = rule_ok (nat_le 1 b.0.0 && nat_le b.0.0 256) (length bytes) b.0 x b.2 in
-    subst (λ (y : ℕ × List ℕ). 1 ≤ y.0) r.1 (le_of 1 b.0.0 (and_left (nat_le 1 b.0.0) (nat_le b.0.0 256) r.0))
+    let b = bind_ok (number_at w16 bytes) (λ n. few_of (length bytes) n.0 n.1) x e in
+    (few_is (length bytes) b.0.0 b.0.1 x b.2).1
 
-offsets_changes : (n : ℕ) (bytes : List ℕ) (x : Head × List ℕ) → offsets_at n bytes ≡ Ok x → n ≡ x.0.changes
+offsets_changes : (few : Few) (bytes : List ℕ) (x : Head × List ℕ) → offsets_at few bytes ≡ Ok x → few.changes ≡ x.0.changes
 unfolding offsets_at
-offsets_changes n bytes x e =
+offsets_changes few bytes x e =
     let a = bind_ok (number_at w64 bytes) _ x e in
     let b = bind_ok (number_at w64 a.0.1) _ x a.2 in
     let c = bind_ok (lines_at b.0.0 b.0.1) _ x b.2 in
-    let head : Head = record { changes = n; mbox = a.0.0; steps = b.0.0; lines = c.0.0 } in
-    let last : (head, c.0.1) ≡ x = ok_is (head, c.0.1) x c.2 in
+    let d = bind_ok (traces_at few.traced c.0.1) _ x c.2 in
+    let head : Head = record { changes = few.changes; mbox = a.0.0; steps = b.0.0; lines = c.0.0; mbox_trace = d.0.0.0; steps_trace = d.0.0.1 } in
+    let last : (head, d.0.1) ≡ x = ok_is (head, d.0.1) x d.2 in
     ap (λ (y : Head × List ℕ). y.0.changes) last
 
 head_some : (bytes : List ℕ) (x : Head × List ℕ) → head_at bytes ≡ Ok x → 1 ≤ x.0.changes

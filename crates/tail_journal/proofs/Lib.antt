@@ -3,6 +3,7 @@ pub mod FrameLaws
 pub mod ReadingLaws
 pub mod CutLaws
 pub mod SpellingLaws
+pub mod OldGroups
 pub mod Appended
 pub mod JointLaw
 pub mod ValidLaws

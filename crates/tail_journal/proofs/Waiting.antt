@@ -6,6 +6,7 @@ use Rattle.std.specs.List.{AllByRecursion}
 use Rattle.std.proofs.lemmas.Grind.{common_steps}
 use Rattle.mailbox_model.specs.declared.change.Change.{Change}
 use Rattle.state_image.specs.Changes.{change_spelled, FitsChange}
+use Rattle.tail_journal.specs.Spelling.{group_head}
 use Rattle.tail_journal.specs.Pending.{PendingChanges, ArePending, AreWritten, HoldsPending, with_change}
 
 all_more : {X : Type 0} (P : X → Type 0) (xs : List X) (x : X) → AllByRecursion P xs → P x → AllByRecursion P (xs ++ x ∷ [])
@@ -41,18 +42,18 @@ none_held group is = subst (HoldsPending 0) (sym is) (record {
 })
 
 pub one_held : (count : ℕ) (old new : List ℕ) (change : Change) → HoldsPending count old → FitsChange change → count < 256
-    → drop 39 new ≡ drop 39 old ++ change_spelled change → 39 ≤ length new → HoldsPending (count + 1) new
+    → drop group_head new ≡ drop group_head old ++ change_spelled change → group_head ≤ length new → HoldsPending (count + 1) new
 one_held count old new change holds fits few is room = record {
-  written = subst (λ (bytes : List ℕ). AreWritten (record { count = count + 1; bytes = bytes })) (sym is) (written_more (record { count = count; bytes = drop 39 old }) change holds.written fits few);
+  written = subst (λ (bytes : List ℕ). AreWritten (record { count = count + 1; bytes = bytes })) (sym is) (written_more (record { count = count; bytes = drop group_head old }) change holds.written fits few);
   head = inr room;
   some = λ _. room;
 }
 
 -- a change after the room for a head and the changes that are there
-pub after_head : (old new spelled : List ℕ) → 39 ≤ length old → new ≡ old ++ spelled → drop 39 new ≡ drop 39 old ++ spelled
-after_head old new spelled room is = ap (drop 39) is ∙ drop-append-le 39 old spelled room
+pub after_head : (old new spelled : List ℕ) → group_head ≤ length old → new ≡ old ++ spelled → drop group_head new ≡ drop group_head old ++ spelled
+after_head old new spelled room is = ap (drop group_head) is ∙ drop-append-le group_head old spelled room
 
 -- bytes that are not empty have the room
-pub has_room : (group : List ℕ) (len : ℕ) → len ≡ length group → (group ≡ []) ⊎ (39 ≤ length group) → (len == 0) ≡ false → 39 ≤ length group
+pub has_room : (group : List ℕ) (len : ℕ) → len ≡ length group → (group ≡ []) ⊎ (group_head ≤ length group) → (len == 0) ≡ false → group_head ≤ length group
 has_room group len is (inl none) some = absurd (true≢false (sym (ap (λ (n : ℕ). n == 0) (is ∙ ap length none)) ∙ some))
 has_room group len is (inr room) some = room

@@ -1,11 +1,12 @@
 -- Groups: how the bytes of place T are read from a count.
-use Rattle.std.specs.Prelude.{ℕ, ◌+◌, ◌-◌, ◌^◌, ◌&&◌, List, [], ◌∷◌, length, Result, Ok, Err, if◌then◌else◌, ◌==◌, nat_lt, nat_le}
+use Rattle.std.specs.Prelude.{ℕ, ◌+◌, ◌-◌, ◌^◌, Bool, true, false, ◌&&◌, List, [], ◌∷◌, length, Result, Ok, Err, if◌then◌else◌, ◌==◌, nat_lt, nat_le}
 use Rattle.std.specs.Int.{w16, w64}
 use Rattle.mailbox_model.specs.declared.change.Change.{Change}
-use Rattle.card_record.specs.Reading.{◌>>=◌, Read, number_at, ruled, times_of}
+use Rattle.card_record.specs.Reading.{◌>>=◌, Read, number_at, times_of}
 use Rattle.state_image.specs.declared.position.Position.{Position}
 use Rattle.state_image.specs.Changes.{change_at}
-use Rattle.state_image.specs.Images.{lines_at}
+use Rattle.state_image.specs.Images.{lines_at, traces_at}
+use Rattle.tail_journal.specs.declared.body.Few.{Few}
 use Rattle.tail_journal.specs.declared.body.Head.{Head}
 use Rattle.tail_journal.specs.Frames.{Frame, frame_size, frames}
 
@@ -16,20 +17,29 @@ pub record Applied : Type 0 where
 
 -- ---- the body of a group; a fault in it is told by how many bytes are left there
 
--- from 1 to 256
-abbrev pub few_at : List ℕ → Read ℕ
-few_at bytes = ruled (λ n. nat_le 1 n && nat_le n 256) (number_at w16) bytes
+-- from 1 to 256 changes: by themselves, or with 32,768 more where there are traces
+abbrev pub few_by : Bool → Bool → ℕ → ℕ → List ℕ → Read Few
+few_by true traced left n rest = Ok (record { traced = false; changes = n }, rest)
+few_by false true left n rest = Ok (record { traced = true; changes = n - 32768 }, rest)
+few_by false false left n rest = Err left
 
--- the offsets after the changes, after their number
-unfoldable pub offsets_at : ℕ → List ℕ → Read Head
-offsets_at n bytes = do
+abbrev pub few_of : ℕ → ℕ → List ℕ → Read Few
+few_of left n rest = few_by (nat_le 1 n && nat_le n 256) (nat_le 32769 n && nat_le n 33024) left n rest
+
+abbrev pub few_at : List ℕ → Read Few
+few_at bytes = number_at w16 bytes >>= λ n. few_of (length bytes) n.0 n.1
+
+-- the offsets after the changes, after their number, and the traces there
+unfoldable pub offsets_at : Few → List ℕ → Read Head
+offsets_at few bytes = do
   mbox ← number_at w64 bytes
   steps ← number_at w64 mbox.1
   lines ← lines_at steps.0 steps.1
-  Ok (record { changes = n; mbox = mbox.0; steps = steps.0; lines = lines.0 }, lines.1)
+  traces ← traces_at few.traced lines.1
+  Ok (record { changes = few.changes; mbox = mbox.0; steps = steps.0; lines = lines.0; mbox_trace = traces.0.0; steps_trace = traces.0.1 }, traces.1)
 
 unfoldable pub head_at : List ℕ → Read Head
-head_at bytes = few_at bytes >>= λ n. offsets_at n.0 n.1
+head_at bytes = few_at bytes >>= λ few. offsets_at few.0 few.1
 
 -- a change with its place, in a body that ends at this offset
 abbrev pub next_change : ℕ → List ℕ → Read (ℕ × Change)
@@ -52,7 +62,14 @@ body_at end bytes = do
 -- ---- the groups from a count on; a place is an offset in T
 
 abbrev pub position_after : ℕ → Head → Position
-position_after base head = record { count = base + head.changes; mbox = head.mbox; steps = head.steps; lines = head.lines }
+position_after base head = record {
+  count = base + head.changes;
+  mbox = head.mbox;
+  steps = head.steps;
+  lines = head.lines;
+  mbox_trace = head.mbox_trace;
+  steps_trace = head.steps_trace;
+}
 
 -- what a body of so many bytes says after a base, where it starts at an offset
 abbrev pub placed : ℕ → ℕ → ℕ → Result (Head × List (ℕ × Change)) ℕ → Result Applied ℕ

@@ -3,7 +3,7 @@ use Rattle.std.specs.Prelude.{◌≡◌, ◌⊎◌, ℕ, ◌+◌, ◌≤◌, Lis
 use Rattle.std.specs.List.{AllByRecursion}
 use Rattle.mailbox_model.specs.declared.change.Change.{Change}
 use Rattle.state_image.specs.Changes.{change_spelled, FitsChange}
-use Rattle.tail_journal.specs.Spelling.{AreSpelled}
+use Rattle.tail_journal.specs.Spelling.{AreSpelled, group_head}
 
 -- how many they are, and their spelling one after the other
 pub record PendingChanges : Type 0 where
@@ -29,6 +29,6 @@ pub record AreWritten (p : PendingChanges) : Type 0 where
 
 -- bytes that are room for the head of a group and then so many changes, or nothing where there is none
 pub record HoldsPending (count : ℕ) (group : List ℕ) : Type 0 where
-  pub written : AreWritten (record { count = count; bytes = drop 39 group })
-  pub head : (group ≡ []) ⊎ (39 ≤ length group)
-  pub some : 1 ≤ count → 39 ≤ length group
+  pub written : AreWritten (record { count = count; bytes = drop group_head group })
+  pub head : (group ≡ []) ⊎ (group_head ≤ length group)
+  pub some : 1 ≤ count → group_head ≤ length group

@@ -7,7 +7,7 @@ use Rattle.mailbox_model.specs.declared.change.Change.{Change}
 use Rattle.state_image.specs.Changes.{change_spelled}
 use Rattle.tail_journal.specs.Frames.{total_size, frames}
 use Rattle.tail_journal.specs.Groups.{Applied, Reading, nothing_more, reading}
-use Rattle.tail_journal.specs.Spelling.{Batch, IsBatch, group_spelled}
+use Rattle.tail_journal.specs.Spelling.{Batch, IsBatch, group_head, group_spelled, old_group_head}
 use Rattle.tail_journal.specs.declared.tail.Tail.{Tail}
 
 -- T is settled, and ends at the size of the tail
@@ -33,9 +33,13 @@ abbrev pub placed_changes : ℕ → List Change → List (ℕ × Change)
 placed_changes at [] = []
 placed_changes at (change ∷ more) = (at, change) ∷ placed_changes (at + length (change_spelled change)) more
 
--- what is applied of a batch that is spelled at an offset: a group has 39 bytes before its changes
+-- what is applied of a batch that is spelled at an offset
 abbrev pub read_back : ℕ → Batch → Applied
-read_back at batch = record { position = batch.position; changes = placed_changes (at + 39) batch.changes }
+read_back at batch = record { position = batch.position; changes = placed_changes (at + group_head) batch.changes }
+
+-- the same of a group of version 1
+abbrev pub old_read_back : ℕ → Batch → Applied
+old_read_back at batch = record { position = batch.position; changes = placed_changes (at + old_group_head) batch.changes }
 
 -- the same groups, and this batch after them
 abbrev pub with_last : Reading → Batch → Reading

@@ -5,11 +5,23 @@ ghost use Rattle.tail_journal.specs.Groups.{few_at, offsets_at, head_at, next_ch
 
 use card_record::{ReadFault, Rest};
 use mailbox_model::Change;
-use state_image::take_change;
+use state_image::{read_traces, take_change};
 use std::alloc::Global;
 
-/// How many bytes a body has before its changes.
-pub const HEAD: usize = 26;
+/// How many bytes a body has before its changes, as it is written.
+pub const HEAD: usize = 90;
+
+/// What is added to the number of changes where a group has traces.
+pub const TRACED: u16 = 32_768;
+
+/// How many changes a group has, and whether it has traces.
+#[derive(Clone, Copy)]
+pub struct Few {
+    /// Whether it has traces, as each group that is written.
+    pub traced: bool,
+    /// How many changes it has, from 1 to 256.
+    pub changes: u16,
+}
 
 /// What a group has before its changes.
 #[derive(Clone, Copy)]
@@ -22,23 +34,34 @@ pub struct Head {
     pub steps: u64,
     /// The number of lines before that offset.
     pub lines: u64,
+    /// The chain of the mbox up to its offset, or 32 zero bytes.
+    pub mbox_trace: [u8; 32],
+    /// The chain of the steps file up to its offset, or 32 zero bytes.
+    pub steps_trace: [u8; 32],
 }
 
-/// Takes the number of changes, from 1 to 256.
-fn read_few(rest: &mut Rest<'_>) -> Result<u16, ReadFault>
-    ensures { Moves (λ n. n) result (few_at rest.old) rest.new }
+/// Takes the number of changes, from 1 to 256, which tells also whether there are traces.
+fn read_few(rest: &mut Rest<'_>) -> Result<Few, ReadFault>
+    ensures { Moves (λ few. few) result (few_at rest.old) rest.new }
 {
     let left = rest.len();
     match rest.b16()? {
-        n @ 1..=256 => Ok(n),
+        n @ 1..=256 => Ok(Few {
+            traced: false,
+            changes: n,
+        }),
+        n @ 32_769..=33_024 => Ok(Few {
+            traced: true,
+            changes: n - TRACED,
+        }),
         _ => Err(ReadFault::Malformed(left)),
     }
 }
 
 /// Takes the offsets after so many changes.
 #[tactic(auto, unfolding(crate::specs::Groups::offsets_at))]
-fn read_offsets(changes: u16, rest: &mut Rest<'_>) -> Result<Head, ReadFault>
-    ensures { Moves (λ head. head) result (offsets_at changes rest.old) rest.new }
+fn read_offsets(few: Few, rest: &mut Rest<'_>) -> Result<Head, ReadFault>
+    ensures { Moves (λ head. head) result (offsets_at few rest.old) rest.new }
 {
     let mbox = rest.b64()?;
     let steps = rest.b64()?;
@@ -47,11 +70,14 @@ fn read_offsets(changes: u16, rest: &mut Rest<'_>) -> Result<Head, ReadFault>
     if steps < lines {
         return Err(ReadFault::Malformed(left));
     }
+    let (mbox_trace, steps_trace) = read_traces(few.traced, rest)?;
     Ok(Head {
-        changes,
+        changes: few.changes,
         mbox,
         steps,
         lines,
+        mbox_trace,
+        steps_trace,
     })
 }
 
@@ -60,8 +86,8 @@ fn read_offsets(changes: u16, rest: &mut Rest<'_>) -> Result<Head, ReadFault>
 fn read_head(rest: &mut Rest<'_>) -> Result<Head, ReadFault>
     ensures { Moves (λ head. head) result (head_at rest.old) rest.new }
 {
-    let changes = read_few(rest)?;
-    read_offsets(changes, rest)
+    let few = read_few(rest)?;
+    read_offsets(few, rest)
 }
 
 /// Takes a change of a body that ends at `end` in the tail, with its offset there.

@@ -28,6 +28,8 @@ fn group_of(
     ensures gives { Gives applied_of result (within_limit at (record { position = position_after base head; changes = changes.items })) }
     ensures no_fault { IfErr result (λ why. why ≢ fault.Disk) }
 {
+    let mbox_trace = head.mbox_trace;
+    let steps_trace = head.steps_trace;
     match base.checked_add(u64::from(head.changes)) {
         Some(count) if count <= MAX_COUNT => Ok(Group {
             position: Position {
@@ -35,6 +37,8 @@ fn group_of(
                 mbox: head.mbox,
                 steps: head.steps,
                 lines: head.lines,
+                mbox_trace,
+                steps_trace,
             },
             changes,
         }),

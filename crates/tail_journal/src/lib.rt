@@ -13,6 +13,6 @@ mod reading;
 mod tail;
 
 pub use group::{GROUP_HEAD, Group, write_group};
-pub use laws::{a_spelled_group_is_read, no_group_is_applied_twice};
+pub use laws::{a_spelled_group_is_read, an_old_group_is_read, no_group_is_applied_twice};
 pub use pending::Pending;
 pub use tail::Tail;

@@ -4,7 +4,7 @@ ghost use Rattle.mailbox_model.specs.declared.change.Change.{Change};
 ghost use Rattle.mailbox_model.specs.Mailbox.{IsValidChange};
 ghost use Rattle.state_image.specs.Changes.{change_spelled, FitsChange};
 ghost use Rattle.tail_journal.specs.Pending.{AreWritten, none_pending, with_change};
-ghost use Rattle.tail_journal.specs.Spelling.{AreSpelled, group_spelled};
+ghost use Rattle.tail_journal.specs.Spelling.{AreSpelled, group_head, group_spelled};
 
 use crate::group::{GROUP_HEAD, fill_head};
 use kit::Memory;
@@ -25,10 +25,11 @@ pub struct Pending {
 impl Model for Pending {
     ghost use Rattle.std.specs.Prelude.{drop};
     ghost use Rattle.tail_journal.specs.Pending.{PendingChanges, HoldsPending};
+    ghost use Rattle.tail_journal.specs.Spelling.{group_head};
 
     ghost Value = { PendingChanges };
 
-    ghost view = { λ p. record { count = p.count; bytes = drop 39 p.group.items } };
+    ghost view = { λ p. record { count = p.count; bytes = drop group_head p.group.items } };
 
     ghost invariant = { λ p. HoldsPending p.count p.group.items };
 }
@@ -50,9 +51,9 @@ fn has_32_bits(uid: u32)
 
 /// Appends a change to those of a group, of which the head gets its room first.
 fn append_after_head(change: &Change, group: &mut Vec<u8>) -> Result<(), Memory>
-    requires { (group.old.items ≡ []) ⊎ (39 ≤ length group.old.items) }
-    ensures changes { OnOk result (drop 39 group.new.items ≡ drop 39 group.old.items ++ change_spelled change.now) }
-    ensures head { OnOk result (39 ≤ length group.new.items) }
+    requires { (group.old.items ≡ []) ⊎ (group_head ≤ length group.old.items) }
+    ensures changes { OnOk result (drop group_head group.new.items ≡ drop group_head group.old.items ++ change_spelled change.now) }
+    ensures head { OnOk result (group_head ≤ length group.new.items) }
 {
     if !group.is_empty() {
         return append_change(change, group);

@@ -1,5 +1,5 @@
 //! What changes do.
-ghost use Rattle.std.specs.Prelude.{◌≡◌, ◌≤◌, ◌<◌, ◌+◌, false, Ok, Err, None};
+ghost use Rattle.std.specs.Prelude.{◌≡◌, ◌≤◌, ◌<◌, ◌+◌, ◌^◌, false, Ok, Err, None};
 ghost use Rattle.kit.specs.Moments.{last_moment};
 ghost use Rattle.card_type.specs.Records as records;
 ghost use Rattle.mailbox_model.specs.Mailbox.{after, full, end_of_uids, IsMailbox, IsValidChange};
@@ -14,6 +14,13 @@ use crate::ready::Ready;
 use card_type::{Card, weight};
 use mailbox_model::{Change, Fault, Held, Item};
 use std::mem;
+
+/// The weight of a card that is let go.
+fn weight_taken(card: Card) -> u64
+    ensures exact { records.weight card < 2 ^ 64 → result ≡ records.weight card }
+{
+    weight(&card)
+}
 
 impl Mailbox {
     /// Makes a change, for which the mailbox is ready where it is an arrival, and which is not full. After it the mailbox is
@@ -115,7 +122,7 @@ impl Mailbox {
             let _item = self.items.remove(index);
             self.spots.remove(uid);
             if let Some(card) = self.cards.take(uid) {
-                self.weight = self.weight - weight(&card);
+                self.weight = self.weight - weight_taken(card);
             }
         }
     }

@@ -4,20 +4,20 @@ use Rattle.source_buffer.proofs.Prefixes.{Keeps_more, Keeps_none, Keeps_as}
 use Rattle.mboxrd.proofs.Stepping.{steps_may, steps_start_lf, steps_start_cr, steps_start_quote, steps_start_other}
 use Rattle.mboxrd.proofs.step.at_start.Goals as goal
 
-pub returns-then-may_begin_separator : goal.returns-then-may_begin_separator
-returns-then-may_begin_separator c = ([], Keeps_none c.args.mail.now, steps_may c.args.preceding c.args.b (sym c.may_begin_separator.ensures ∙ c.if-may_begin_separator.true))
+pub returns-then-may_begin_separator-clause-steps : goal.returns-then-may_begin_separator-clause-steps
+returns-then-may_begin_separator-clause-steps c = ([], Keeps_none c.args.mail.now, steps_may c.args.preceding c.args.b (sym c.may_begin_separator.ensures ∙ c.if-may_begin_separator.true))
 
-pub returns-in-10 : goal.returns-in-10
-returns-in-10 c = (withheld_line c.args.preceding, Keeps_as c.args.mail.now c.keep.new.self c.withheld_line.result.now (withheld_line c.args.preceding) c.withheld_line.ensures c.in_ok-keep.ensures, steps_start_lf c.args.preceding c.args.b c.in-10.is)
+pub returns-in-10-clause-steps : goal.returns-in-10-clause-steps
+returns-in-10-clause-steps c = (withheld_line c.args.preceding, Keeps_as c.args.mail.now c.keep.new.self c.withheld_line.result.now (withheld_line c.args.preceding) c.withheld_line.ensures c.in_ok-keep.ensures, steps_start_lf c.args.preceding c.args.b c.in-10.is)
 
-pub returns-in-13 : goal.returns-in-13
-returns-in-13 c = (withheld_line c.args.preceding, Keeps_as c.args.mail.now c.keep.new.self c.withheld_line.result.now (withheld_line c.args.preceding) c.withheld_line.ensures c.in_ok-keep.ensures, steps_start_cr c.args.preceding c.args.b c.in-13.is)
+pub returns-in-13-clause-steps : goal.returns-in-13-clause-steps
+returns-in-13-clause-steps c = (withheld_line c.args.preceding, Keeps_as c.args.mail.now c.keep.new.self c.withheld_line.result.now (withheld_line c.args.preceding) c.withheld_line.ensures c.in_ok-keep.ensures, steps_start_cr c.args.preceding c.args.b c.in-13.is)
 
-pub returns-in-62 : goal.returns-in-62
-returns-in-62 c = (withheld_line c.args.preceding, Keeps_as c.args.mail.now c.keep.new.self c.withheld_line.result.now (withheld_line c.args.preceding) c.withheld_line.ensures c.in_ok-keep.ensures, steps_start_quote c.args.preceding c.args.b c.in-62.is)
+pub returns-in-62-clause-steps : goal.returns-in-62-clause-steps
+returns-in-62-clause-steps c = (withheld_line c.args.preceding, Keeps_as c.args.mail.now c.keep.new.self c.withheld_line.result.now (withheld_line c.args.preceding) c.withheld_line.ensures c.in_ok-keep.ensures, steps_start_quote c.args.preceding c.args.b c.in-62.is)
 
-pub returns-in_ok-keep-in_default : goal.returns-in_ok-keep-in_default
-returns-in_ok-keep-in_default c = (
+pub returns-in_ok-keep-in_default-clause-steps : goal.returns-in_ok-keep-in_default-clause-steps
+returns-in_ok-keep-in_default-clause-steps c = (
   withheld_line c.args.preceding ++ (c.args.b ∷ []),
   Keeps_more c.args.mail.now c.keep.new.self c.keep-in_default.new.self (withheld_line c.args.preceding) (c.args.b ∷ [])
       (Keeps_as c.args.mail.now c.keep.new.self c.withheld_line.result.now (withheld_line c.args.preceding) c.withheld_line.ensures c.in_ok-keep.ensures) c.in_ok-keep-in_default.ensures,

@@ -16,5 +16,5 @@ returns-clause-reads_back g c =
     ∙ image_again c.args.mailbox.now.mailbox c.args.position (record {
       me = c.in_ok-push_names.ensures.me;
       rules = c.in_ok-push_names.ensures.rules;
-      position = record { some = c.requires.some; few = c.requires.few; mbox = c.in_ok-push_names.ensures.wide.0; steps = c.in_ok-push_names.ensures.wide.1; lines = c.requires.lines };
+      position = record { some = c.requires.some; few = c.requires.few; mbox = c.in_ok-push_names.ensures.wide.0; steps = c.in_ok-push_names.ensures.wide.1; lines = c.requires.lines; mbox_trace = c.in_ok-push_names.ensures.traces.0; steps_trace = c.in_ok-push_names.ensures.traces.1 };
     })

@@ -8,6 +8,15 @@ use Rattle.state_store.specs.Commits.{Appends, Commits}
 use Rattle.state_store.proofs.Committing.{appends_them}
 use Rattle.state_store.proofs.commit.append_pending.Goals as goal
 
+pub append-requires-clause-leads : goal.append-requires-clause-leads
+append-requires-clause-leads g c places is =
+    let p = c.args.pending.now in
+    let leads = c.requires.leads places is in (
+      leads.0,
+      leads.1,
+      appends_them leads.0 leads.1 c.args.position (c.args.position.count - p.count) p.count p.bytes c.deref.result.now places refl (λ held spelled. c.deref.ensures.value ∙ c.seal-group.ensures.text held spelled) leads.2 leads.3,
+    )
+
 pub returns-in_err-append-clause-any_moment : goal.returns-in_err-append-clause-any_moment
 returns-in_err-append-clause-any_moment g c places is me new same commits =
     let p = c.args.pending.now in

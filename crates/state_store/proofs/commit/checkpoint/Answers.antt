@@ -4,7 +4,7 @@ use Rattle.outside.specs.Places.{Places, Changes, OthersStay}
 use Rattle.outside.specs.Moments.{Reached}
 use Rattle.outside.proofs.Known.{known_on, known_with}
 use Rattle.mailbox_model.specs.Lists.{Bytes}
-use Rattle.state_image.specs.Images.{image_of}
+use Rattle.state_image.specs.Images.{image, image_of}
 use Rattle.state_store.specs.States.{State}
 use Rattle.state_store.specs.Stands.{stands}
 use Rattle.outside.proofs.Moments.{weaker, and_then}
@@ -21,12 +21,12 @@ pub save-requires-clause-known : goal.save-requires-clause-known
 save-requires-clause-known g c places is = (c.requires.stored places is).slots
 
 pub returns-in_err-save-clause-any_moment : goal.returns-in_err-save-clause-any_moment
-returns-in_err-save-clause-any_moment g c places is me new read count =
+returns-in_err-save-clause-any_moment g c places is me new text read count =
     let H = g.H.Shelf in
     let start = H.may_leave c.args.shelf.now in
-    let slot : Slot = record { number = c.args.number; image = c.args.image.now } in
-    let has = c.each_mailbox_has_one_image.ensures.spelled c.args.image.now new.mailbox new.position (are_bytes c.args.image.now c.type_inv.image) read in
-    let kept : slot_kept slot ≡ Ok (new.mailbox, new.position) = (λ i. slot_kept (record { number = sym count i; image = has.1 i })) ∙ c.a_saved_image_is_kept.ensures new.mailbox new.position has.0 in
+    let slot : Slot = record { number = c.args.number; image = c.args.bytes.now } in
+    let has = c.each_mailbox_has_one_image.ensures.spelled c.args.bytes.now new.mailbox new.position (are_bytes c.args.bytes.now c.type_inv.bytes) read in
+    let kept : slot_kept slot ≡ Ok (new.mailbox, new.position) = (λ i. slot_kept (record { number = sym count i; image = text i })) ∙ c.a_saved_image_is_kept.ensures new.mailbox new.position has.0 in
     weaker H.moment H.left_since c.args.shelf.now c.save.new.shelf (Reached start (SameOrNew slot)) (Reached start (OldOrNew me new)) (c.save.ensures.any_moment places is)
     (save_leaves me new slot kept c.args.store.now start places (c.requires.stored places is) (c.requires.later places is))
 
@@ -34,7 +34,7 @@ pub clear-requires : goal.clear-requires
 clear-requires g c = record {
   known = λ p known.
       let H = g.H.Shelf in
-      let slot : Slot = record { number = c.args.number; image = c.args.image.now } in
+      let slot : Slot = record { number = c.args.number; image = c.args.bytes.now } in
       let from = c.save.ensures.tail.back p known in
       let stored = c.requires.stored from.places from.is in
       let run = c.save.ensures.any_moment from.places from.is in
@@ -45,13 +45,13 @@ clear-requires g c = record {
 }
 
 pub returns-in_err-clear-clause-any_moment : goal.returns-in_err-clear-clause-any_moment
-returns-in_err-clear-clause-any_moment g c places is me new read count =
+returns-in_err-clear-clause-any_moment g c places is me new text read count =
     let H = g.H.Shelf in
     let start = H.may_leave c.args.shelf.now in
     let mid = H.may_leave c.save.new.shelf in
-    let slot : Slot = record { number = c.args.number; image = c.args.image.now } in
-    let has = c.each_mailbox_has_one_image.ensures.spelled c.args.image.now new.mailbox new.position (are_bytes c.args.image.now c.type_inv.image) read in
-    let kept : slot_kept slot ≡ Ok (new.mailbox, new.position) = (λ i. slot_kept (record { number = sym count i; image = has.1 i })) ∙ c.a_saved_image_is_kept.ensures new.mailbox new.position has.0 in
+    let slot : Slot = record { number = c.args.number; image = c.args.bytes.now } in
+    let has = c.each_mailbox_has_one_image.ensures.spelled c.args.bytes.now new.mailbox new.position (are_bytes c.args.bytes.now c.type_inv.bytes) read in
+    let kept : slot_kept slot ≡ Ok (new.mailbox, new.position) = (λ i. slot_kept (record { number = sym count i; image = text i })) ∙ c.a_saved_image_is_kept.ensures new.mailbox new.position has.0 in
     let stored = c.requires.stored places is in
     let later = c.requires.later places is in
     let place = next_place (chosen_of places) in
@@ -63,13 +63,13 @@ returns-in_err-clear-clause-any_moment g c places is me new read count =
     (clear_leaves me new slot kept c.args.store.now start places stored later mid place (λ (d : Places) (left : mid d). run.each d (g.met.H.Shelf.counts_now c.save.new.shelf (H.moment c.args.shelf.now) d run.later left)) (chosen_left mid saved.places (Some (place, slot)) slots.settled saved.holds))
 
 pub returns-clause-any_moment : goal.returns-clause-any_moment
-returns-clause-any_moment g c places is me new read count =
+returns-clause-any_moment g c places is me new text read count =
     let H = g.H.Shelf in
     let start = H.may_leave c.args.shelf.now in
     let mid = H.may_leave c.save.new.shelf in
-    let slot : Slot = record { number = c.args.number; image = c.args.image.now } in
-    let has = c.each_mailbox_has_one_image.ensures.spelled c.args.image.now new.mailbox new.position (are_bytes c.args.image.now c.type_inv.image) read in
-    let kept : slot_kept slot ≡ Ok (new.mailbox, new.position) = (λ i. slot_kept (record { number = sym count i; image = has.1 i })) ∙ c.a_saved_image_is_kept.ensures new.mailbox new.position has.0 in
+    let slot : Slot = record { number = c.args.number; image = c.args.bytes.now } in
+    let has = c.each_mailbox_has_one_image.ensures.spelled c.args.bytes.now new.mailbox new.position (are_bytes c.args.bytes.now c.type_inv.bytes) read in
+    let kept : slot_kept slot ≡ Ok (new.mailbox, new.position) = (λ i. slot_kept (record { number = sym count i; image = text i })) ∙ c.a_saved_image_is_kept.ensures new.mailbox new.position has.0 in
     let stored = c.requires.stored places is in
     let later = c.requires.later places is in
     let place = next_place (chosen_of places) in
@@ -83,15 +83,15 @@ returns-clause-any_moment g c places is me new read count =
 pub returns-clause-lasting : goal.returns-clause-lasting
 returns-clause-lasting g c =
     let seen = g.H.Shelf.seen in
-    let slot : Slot = record { number = c.args.number; image = c.args.image.now } in
+    let slot : Slot = record { number = c.args.number; image = c.args.bytes.now } in
     let old = c.args.shelf.now in
     let mid = c.save.new.shelf in
     let new = c.clear.new.shelf in
     let cleared = known_with (seen mid) (seen new) (OthersStay T) (λ (z : Places). z.t ≡ []) c.clear.ensures.others c.in_ok-clear.ensures.cleared in
-    known_on (seen old) (seen mid) (seen new) (IsNew slot) (λ (y z : Places). OthersStay T y z × (z.t ≡ [])) (λ (x z : Places). (me : Bytes) (to : State) → image_of c.args.image.now ≡ Ok (to.mailbox, to.position) → to.position.count ≡ c.args.number → stands me z ≡ Ok to)
-    (λ x y z known is h me to read count.
-    let has = c.each_mailbox_has_one_image.ensures.spelled c.args.image.now to.mailbox to.position (are_bytes c.args.image.now c.type_inv.image) read in
-    let kept : slot_kept slot ≡ Ok (to.mailbox, to.position) = (λ i. slot_kept (record { number = sym count i; image = has.1 i })) ∙ c.a_saved_image_is_kept.ensures to.mailbox to.position has.0 in
+    known_on (seen old) (seen mid) (seen new) (IsNew slot) (λ (y z : Places). OthersStay T y z × (z.t ≡ [])) (λ (x z : Places). (me : Bytes) (to : State) → c.args.bytes.now ≡ image to.mailbox to.position → image_of c.args.bytes.now ≡ Ok (to.mailbox, to.position) → to.position.count ≡ c.args.number → stands me z ≡ Ok to)
+    (λ x y z known is h me to text read count.
+    let has = c.each_mailbox_has_one_image.ensures.spelled c.args.bytes.now to.mailbox to.position (are_bytes c.args.bytes.now c.type_inv.bytes) read in
+    let kept : slot_kept slot ≡ Ok (to.mailbox, to.position) = (λ i. slot_kept (record { number = sym count i; image = text i })) ∙ c.a_saved_image_is_kept.ensures to.mailbox to.position has.0 in
     let from = c.in_ok-save.ensures.saved.back y known in
     let w = from.places in
     saved_stands me to slot kept w (c.requires.later w from.is) (c.requires.stored w from.is).ends (next_place (chosen_of w)) 0 z (same_chosen y z h.0 ∙ from.holds) h.1)

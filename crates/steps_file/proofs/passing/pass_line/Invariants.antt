@@ -6,7 +6,7 @@ use Rattle.steps_file.proofs.passing.pass_line.Given as goal
 abbrev pub invariant-loop-buffer : goal.invariant-loop-buffer
 invariant-loop-buffer g l = record {
   later : g.S.Source.faults l.fn.source ≤ g.S.Source.faults l.source;
-  passed : (passed : List ℕ) × Passed (g.S.Source.left l.fn.source) (g.S.Source.left l.source) l.fn.buffer l.buffer passed l.line × HasNoLf passed;
+  passed : (passed : List ℕ) × Passed (g.S.Source.left l.fn.source) (g.S.Source.left l.source) l.fn.buffer l.buffer l.fn.trace l.trace passed l.line × HasNoLf passed;
 }
 
 abbrev pub decreases-loop-buffer : goal.decreases-loop-buffer

@@ -17,11 +17,11 @@ overflow_sub-self c =
     let at : IsEntryAt (mailbox_in a) uid c.in-Some.index = c.in-Some.ensures.found in
     let found = entry_is (mailbox_in a) k.rules.uids a.items.items k.entries.items uid c.in-Some.index at in
     let card = read_weight at.entry.read c.in-Some-take.card (sym (card_is a k uid at.entry found) ∙ sym c.take.ensures.card ∙ c.in-Some-take.is) in
-    let exact = c.weight.ensures.exact (omega (arith, card, weight_small a k uid at.entry found)) in
+    let exact = c.weight_taken.ensures.exact (omega (arith, card, weight_small a k uid at.entry found)) in
     omega (arith, exact, card, weight_within a k uid at.entry found)
 
-kept : (c : goal.After-drop-card-in-Some-take-17)
-    → Keeps (record c.self.inside { items = c.remove-item.new.self; cards = c.take.new.self; weight = c.self.inside.weight - c.weight.result; spots = c.remove.new.self; ready = Unready }) (after (mailbox_in c.self.inside) (Expunge c.args.uid)).entries
+kept : (c : goal.After-self-in-Some-take-1)
+    → Keeps (record c.self.inside { items = c.remove-item.new.self; cards = c.take.new.self; weight = c.self.inside.weight - c.weight_taken.result; spots = c.remove.new.self; ready = Unready }) (after (mailbox_in c.self.inside) (Expunge c.args.uid)).entries
 kept c =
     let a = c.self.inside in
     let k = c.self.invariant in
@@ -29,10 +29,10 @@ kept c =
     let at : IsEntryAt (mailbox_in a) uid c.in-Some.index = c.in-Some.ensures.found in
     let found = entry_is (mailbox_in a) k.rules.uids a.items.items k.entries.items uid c.in-Some.index at in
     let card = read_weight at.entry.read c.in-Some-take.card (sym (card_is a k uid at.entry found) ∙ sym c.take.ensures.card ∙ c.in-Some-take.is) in
-    let exact = c.weight.ensures.exact (omega (arith, card, weight_small a k uid at.entry found)) in
+    let exact = c.weight_taken.ensures.exact (omega (arith, card, weight_small a k uid at.entry found)) in
     let left = c.remove-item.ensures.items ∙ items_left (mailbox_in a) k.rules.uids a.items.items k.entries.items uid c.in-Some.index at in
-    let rest : (a.weight - c.weight.result) + weight_read at.entry.read ≡ a.weight = omega (arith, exact, card, weight_within a k uid at.entry found) in
-    uid_left a k c.remove-item.new.self c.take.new.self (a.weight - c.weight.result) c.remove.new.self uid at.entry found left c.take.ensures.cards rest c.remove.ensures.spots c.remove.ensures.copies
+    let rest : (a.weight - c.weight_taken.result) + weight_read at.entry.read ≡ a.weight = omega (arith, exact, card, weight_within a k uid at.entry found) in
+    uid_left a k c.remove-item.new.self c.take.new.self (a.weight - c.weight_taken.result) c.remove.new.self uid at.entry found left c.take.ensures.cards rest c.remove.ensures.spots c.remove.ensures.copies
 
 kept_fault : (c : goal.In_default-take)
     → Keeps (record c.self.inside { items = c.remove-item.new.self; cards = c.take.new.self; spots = c.remove.new.self; ready = Unready }) (after (mailbox_in c.self.inside) (Expunge c.args.uid)).entries

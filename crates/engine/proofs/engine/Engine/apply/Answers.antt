@@ -3,7 +3,7 @@ use Rattle.mailbox_model.specs.Mailbox.{Mailbox}
 use Rattle.touched_chats.specs.Costs.{change_cost}
 use Rattle.engine.specs.Followed.{Followed, IsApplyCause, IsUnrepaired}
 use Rattle.engine.proofs.Causes.{cause_of, unmade}
-use Rattle.engine.proofs.engine.Engine.apply.Goals.{in-Arrive-1, in-ArriveFault-1}
+use Rattle.engine.proofs.engine.Engine.apply.Goals.{in-Arrive+in-None-1, in-Arrive+in-Some-1, in-ArriveFault-1}
 use Rattle.engine.proofs.engine.Engine.apply.Goals as goal
 
 pub returns-in-Ok-clause-cost : goal.returns-in-Ok-clause-cost
@@ -27,6 +27,7 @@ returns-in-Err-clause-cause g c =
     let same = ap (λ (m : Mailbox). record old { mailbox = m; stale = after }) c.repair_for-repaired.ensures.same in
     subst (λ e. IsApplyCause e c.args.change c.match-change.self c.in-Err.fault) c.self.view_is
     (elim c.match-change.branch [
-      | in-Arrive-1 w ↦ unmade old c.match-change.self c.args.change after c.in-Err.fault (w.self-is ∙ same) cause
+      | in-Arrive+in-None-1 w ↦ unmade old c.match-change.self c.args.change after c.in-Err.fault (w.self-is ∙ same) cause
+      | in-Arrive+in-Some-1 w ↦ unmade old c.match-change.self c.args.change after c.in-Err.fault (w.self-is ∙ same) cause
       | in-ArriveFault-1 w ↦ unmade old c.match-change.self c.args.change after c.in-Err.fault (w.self-is ∙ same) cause
     ])

@@ -26,14 +26,14 @@ commit-requires-clause-batch g c =
     let inside = c.self.inside in
     let k : Keeping = record { state = record { mailbox = inside.engine.mailbox; position = inside.position }; pending = inside.pending; store = inside.store; stale = inside.engine.stale } in
     make_batch k k.pending.count k.pending.bytes refl refl c.count.ensures.written (omega (arith, c.if-count-eq0.false, c.count.ensures.value))
-    c.self.invariant.0 c.self.invariant.1 c.has_offsets.ensures.mbox c.has_offsets.ensures.steps
+    c.self.invariant.0 c.self.invariant.1 c.has_offsets.ensures.mbox c.has_offsets.ensures.steps c.has_offsets.ensures.mbox_trace c.has_offsets.ensures.steps_trace
 
 pub commit-requires-clause-leads : goal.commit-requires-clause-leads
 commit-requires-clause-leads g c places is =
     let inside = c.self.inside in
     let k : Keeping = record { state = record { mailbox = inside.engine.mailbox; position = inside.position }; pending = inside.pending; store = inside.store; stale = inside.engine.stale } in
     commits k k.pending.count k.pending.bytes refl refl c.count.ensures.written (omega (arith, c.if-count-eq0.false, c.count.ensures.value))
-    c.self.invariant.0 c.self.invariant.1 c.has_offsets.ensures.mbox c.has_offsets.ensures.steps c.mailbox-mailbox.result.now.mailbox places c.mailbox-mailbox.ensures
+    c.self.invariant.0 c.self.invariant.1 c.has_offsets.ensures.mbox c.has_offsets.ensures.steps c.has_offsets.ensures.mbox_trace c.has_offsets.ensures.steps_trace c.mailbox-mailbox.result.now.mailbox places c.mailbox-mailbox.ensures
     (subst (λ (k : Keeping). IsKept k places) (sym c.self.view_is) (c.requires.kept places is))
 
 pub invariant_of-self : goal.invariant_of-self

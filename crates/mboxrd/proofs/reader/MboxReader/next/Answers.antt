@@ -5,6 +5,7 @@ use Rattle.source_buffer.proofs.Positions.{at_position}
 use Rattle.source_buffer.proofs.Taking.{BufferTakes_more, holds_rest_more}
 use Rattle.mboxrd.specs.Reading.{buffered}
 use Rattle.mboxrd.proofs.Answered.{both_most, answers_long, answers_mail, answer_known}
+use Rattle.mboxrd.proofs.Tracing.{goes_more, stays_traced, traced_both}
 use Rattle.mboxrd.proofs.reader.MboxReader.next.Goals as goal
 
 pub returns-in_err-bytes-clause-took : goal.returns-in_err-bytes-clause-took
@@ -30,6 +31,7 @@ returns-then-len-gt-MAX_MAIL_LEN-clause-took g c =
         answers_long c.args.self.now c.reach.new.self c.read_mail.new.self s.0 t.0 t.2.0 c.in_ok-bytes.bytes.items met s.2.0 t.2.2 c.in_ok-bytes.ensures.place t.2.1
             (omega (arith, c.if-len-gt-MAX_MAIL_LEN.true, c.len.ensures)),
         holds_rest_more c.args.self.now.held c.reach.new.self.held c.read_mail.new.self.held s.0 t.0 s.2.1 t.2.3,
+        goes_more c.args.self.now c.reach.new.self c.read_mail.new.self s.0 t.0 (s.2.2 c.if-not-found.false) t.2.4,
       ),
     )
 
@@ -54,6 +56,7 @@ returns-clause-took g c =
         answers_mail c.args.self.now c.reach.new.self c.read_mail.new.self s.0 t.0 t.2.0 c.in_ok-bytes.bytes met s.2.0 t.2.2 c.in_ok-bytes.ensures.place t.2.1
             (omega (arith, c.if-len-gt-MAX_MAIL_LEN.false, c.len.ensures)),
         holds_rest_more c.args.self.now.held c.reach.new.self.held c.read_mail.new.self.held s.0 t.0 s.2.1 t.2.3,
+        goes_more c.args.self.now c.reach.new.self c.read_mail.new.self s.0 t.0 (s.2.2 c.if-not-found.false) t.2.4,
       ),
     )
 
@@ -71,3 +74,15 @@ pub returns-then-not-found-clause-position : goal.returns-then-not-found-clause-
 returns-then-not-found-clause-position g c =
     let s = c.in_ok-found.ensures.took in
     at_position (g.S.Source.left c.args.source.now) (g.S.Source.left c.reach.new.source) (buffered c.args.self.now) (buffered c.reach.new.self) s.0 c.in_ok-found.ensures.before c.in_ok-found.ensures.fewer s.1 s.2.1
+
+pub returns-then-len-gt-MAX_MAIL_LEN-clause-traced : goal.returns-then-len-gt-MAX_MAIL_LEN-clause-traced
+returns-then-len-gt-MAX_MAIL_LEN-clause-traced g c =
+    let w = returns-then-len-gt-MAX_MAIL_LEN-clause-took g c in
+    traced_both _ (g.S.Source.left c.args.source.now) (g.S.Source.left c.read_mail.new.source) c.args.self.now c.read_mail.new.self
+    (stays_traced (g.S.Source.left c.args.source.now) (g.S.Source.left c.read_mail.new.source) c.args.self.now c.read_mail.new.self w.0 c.in_ok-found.ensures.before c.in_ok-bytes.ensures.fewer w.1 w.2.2 c.in_ok-bytes.ensures.place)
+
+pub returns-clause-traced : goal.returns-clause-traced
+returns-clause-traced g c =
+    let w = returns-clause-took g c in
+    traced_both _ (g.S.Source.left c.args.source.now) (g.S.Source.left c.read_mail.new.source) c.args.self.now c.read_mail.new.self
+    (stays_traced (g.S.Source.left c.args.source.now) (g.S.Source.left c.read_mail.new.source) c.args.self.now c.read_mail.new.self w.0 c.in_ok-found.ensures.before c.in_ok-bytes.ensures.fewer w.1 w.2.2 c.in_ok-bytes.ensures.place)

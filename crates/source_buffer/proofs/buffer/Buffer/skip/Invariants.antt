@@ -7,7 +7,7 @@ invariant-loop-dropped g l = record {
   later : g.S.Source.faults l.fn.source ≤ g.S.Source.faults l.source;
   within : l.dropped ≤ l.count;
   fewer : length l.fn.self.held ≤ l.fn.self.taken → length l.self.held ≤ l.self.taken;
-  dropped : Dropped (g.S.Source.left l.fn.source) (g.S.Source.left l.source) l.fn.self l.self l.dropped;
+  dropped : Dropped (g.S.Source.left l.fn.source) (g.S.Source.left l.source) l.fn.self l.self l.fn.trace l.trace l.dropped;
 }
 
 abbrev pub decreases-loop-dropped : goal.decreases-loop-dropped
