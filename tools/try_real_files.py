@@ -6,6 +6,7 @@
 - With a folder, a FIFO, a device or a symbolic link in the place of each file: what is no regular file is a fault at once.
 - With words that follow no mailbox, where each file is a FIFO: no file is opened, since to open one would hang.
 - With a tail in which one group more has place: that one is appended, and the next commit saves an image and clears the tail.
+- With an mbox of which a byte was changed after it was followed: it is refused, and followed on where the byte is put back.
 
 It builds nothing, and prints a line for each run that ends otherwise than it should. The status is 0 where there is none."""
 import itertools
@@ -191,6 +192,19 @@ def try_full_tail(program, room):
     expect("a full tail: sizes", sizes(folder), [IMAGE, IMAGE, 0])
 
 
+def try_changed_mbox(program, room):
+    """An mbox that was rewritten is not followed, and what is kept stays; put back, it is followed on."""
+    folder = new_folder(room)
+    run(program, folder, LIST)
+    was = kept(folder)
+    for text, answer in (b"Ho", (13, b"chats: other mbox\n")), (b"Hi", (0, ANSWER)):
+        with open(f"{folder}/box.mbox", "wb") as it:
+            it.write(MAIL.replace(b"Hi", text))
+        expect(f"an mbox that says {text}", run(program, folder, LIST), answer)
+        if answer[0]:
+            expect(f"an mbox that says {text}: what is kept", kept(folder), was)
+
+
 def main():
     if len(sys.argv) != 2:
         sys.exit(__doc__)
@@ -204,6 +218,7 @@ def main():
             try_odd(program, room, name, kind)
         try_links(program, room)
         try_full_tail(program, room)
+        try_changed_mbox(program, room)
         try_words(program, room)
     print(f"{runs} runs over real files; {len(failures)} things were otherwise than they should be")
     sys.exit(bool(failures))

@@ -50,6 +50,7 @@ agrees_refused o old new why s puts (inl is) = subst (Agrees o) (sym is) (by o w
     by (Ok text) refusal.NoChat p = absurd cc
     by (Ok text) (refusal.Damaged place at) p = absurd cc
     by (Ok text) (refusal.Short input) p = absurd cc
+    by (Ok text) (refusal.OtherFiles input) p = absurd cc
     by (Ok text) (refusal.OtherMe other me) p = absurd cc
     by (Ok text) (refusal.Endless input) p = tt
     by (Ok text) refusal.NoApp p = absurd cc
@@ -63,6 +64,7 @@ agrees_refused o old new why s puts (inl is) = subst (Agrees o) (sym is) (by o w
     by (Err e) refusal.NoChat p = (let same : refusal.NoChat ≡ e = cc in ap status_of same)
     by (Err e) (refusal.Damaged place at) p = (let same : refusal.Damaged place at ≡ e = cc in ap status_of same)
     by (Err e) (refusal.Short input) p = (let same : refusal.Short input ≡ e = cc in ap status_of same)
+    by (Err e) (refusal.OtherFiles input) p = (let same : refusal.OtherFiles input ≡ e = cc in ap status_of same)
     by (Err e) (refusal.OtherMe other me) p = (let same : refusal.OtherMe other me ≡ e = cc in ap status_of same)
     by (Err e) (refusal.Endless input) p = tt
     by (Err e) refusal.NoApp p = (let same : refusal.NoApp ≡ e = cc in ap status_of same)
@@ -95,6 +97,7 @@ puts_refused o old new why s write (inl is) = subst (PutsAnswer old new o) (sym 
     by (Ok text) refusal.NoChat w = tt
     by (Ok text) (refusal.Damaged place at) w = tt
     by (Ok text) (refusal.Short input) w = tt
+    by (Ok text) (refusal.OtherFiles input) w = tt
     by (Ok text) (refusal.OtherMe other me) w = tt
     by (Ok text) (refusal.Endless input) w = tt
     by (Ok text) refusal.NoApp w = tt
@@ -117,6 +120,7 @@ answered old new (Ok t) text status.NoChat is agrees puts read endless disk writ
 answered old new (Ok t) text status.NoApp is agrees puts read endless disk write = absurd agrees
 answered old new (Ok t) text status.Damaged is agrees puts read endless disk write = absurd agrees
 answered old new (Ok t) text status.Short is agrees puts read endless disk write = absurd agrees
+answered old new (Ok t) text status.OtherFiles is agrees puts read endless disk write = absurd agrees
 answered old new (Ok t) text status.OtherMe is agrees puts read endless disk write = absurd agrees
 
 -- the line of a read fault has its cause
@@ -139,6 +143,7 @@ not_read old new cause rose s line mbox steps is = by (subst (PutsLine old new c
         none refusal.NoChat e c = absurd cc
         none (refusal.Damaged place at) e c = absurd cc
         none (refusal.Short input) e c = absurd cc
+        none (refusal.OtherFiles input) e c = absurd cc
         none (refusal.OtherMe other me) e c = absurd cc
         none (refusal.Endless input) e c = absurd cc
         none refusal.NoApp e c = absurd cc
@@ -163,6 +168,7 @@ not_endless old new cause rose s line mbox steps is = by (subst (PutsLine old ne
         none refusal.NoChat e c = absurd cc
         none (refusal.Damaged place at) e c = absurd cc
         none (refusal.Short input) e c = absurd cc
+        none (refusal.OtherFiles input) e c = absurd cc
         none (refusal.OtherMe other me) e c = absurd cc
         none refusal.NoApp e c = absurd cc
 
@@ -183,6 +189,7 @@ not_disk old new cause rose s line shelf is = by (subst (PutsLine old new cause 
         none refusal.NoChat e c = absurd cc
         none (refusal.Damaged place at) e c = absurd cc
         none (refusal.Short input) e c = absurd cc
+        none (refusal.OtherFiles input) e c = absurd cc
         none (refusal.OtherMe other me) e c = absurd cc
         none (refusal.Endless input) e c = absurd cc
         none refusal.NoApp e c = absurd cc
@@ -224,6 +231,7 @@ refused_line old new cause rose why s of_why of_memory line =
     by refusal.NoChat c p = (refusal.NoChat, refl, c, p)
     by (refusal.Damaged place at) c p = (refusal.Damaged place at, refl, c, p)
     by (refusal.Short input) c p = (refusal.Short input, refl, c, p)
+    by (refusal.OtherFiles input) c p = (refusal.OtherFiles input, refl, c, p)
     by (refusal.OtherMe other me) c p = (refusal.OtherMe other me, refl, c, p)
     by (refusal.Endless input) c p = (refusal.Endless input, refl, c, p)
     by refusal.NoApp c p = (refusal.NoApp, refl, c, p)

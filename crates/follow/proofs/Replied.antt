@@ -13,6 +13,7 @@ use Rattle.source_buffer.specs.Buffered.{Buffered, BufferTakes}
 use Rattle.source_buffer.proofs.Taking.{BufferTakes_more}
 use Rattle.mboxrd.specs.Reading as mbox
 use Rattle.steps_file.specs.Reading as steps
+use Rattle.follower.specs.declared.fault.Input.{Input}
 use Rattle.follower.specs.declared.fault.Input.TheVariants.{Mbox, Steps}
 use Rattle.follower.specs.declared.fault.RunFault.{RunFault}
 use Rattle.follower.specs.declared.fault.RunFault.TheVariants as fault
@@ -77,6 +78,8 @@ stops_put q g outcomes old new fault.Disk stops = by (replied q (followed g))
     by (Err why) = tt
 stops_put q g outcomes old new (fault.Short input) stops =
     subst (λ (r : Result Reached Refusal). Puts (replied q r) old new (Err (refusal.Short input))) (sym stops.0) refl
+stops_put q g outcomes old new (fault.OtherFiles input) stops =
+    subst (λ (r : Result Reached Refusal). Puts (replied q r) old new (Err (refusal.OtherFiles input))) (sym stops.0) refl
 stops_put q g outcomes old new (fault.Steps number) stops =
     subst (λ (r : Result Reached Refusal). Puts (replied q r) old new (Err (refusal.Steps number))) (sym stops.1)
     (subst (λ (o : Option Stop). Puts (answer_at q o stops.0.state) old new (Err (refusal.Steps number))) (sym stops.2) refl)
@@ -94,6 +97,7 @@ pub stops_last : (g : Given) (outcomes : Places → Type 0) (why : RunFault) →
 stops_last g outcomes (fault.Read input) stops = tt
 stops_last g outcomes (fault.Endless input) stops = tt
 stops_last g outcomes (fault.Short input) stops = stops.1
+stops_last g outcomes (fault.OtherFiles input) stops = stops.1
 stops_last g outcomes (fault.Steps number) stops = stops.3
 stops_last g outcomes fault.Full stops = stops.3
 stops_last g outcomes fault.Disk stops = tt
@@ -140,6 +144,7 @@ caused P Q R T U new me (fault.Endless Mbox) is t u = t is
 caused P Q R T U new me (fault.Endless Steps) is t u = u is
 caused P Q R T U new me fault.Disk is t u = is
 caused P Q R T U new me (fault.Short input) is t u = tt
+caused P Q R T U new me (fault.OtherFiles input) is t u = tt
 caused P Q R T U new me (fault.Steps number) is t u = tt
 caused P Q R T U new me (fault.Damaged place at) is t u = tt
 caused P Q R T U new me (fault.OtherMe other) is t u = tt
@@ -161,6 +166,7 @@ cause_on P P' Q Q' R R' T T' U U' refusal.Full p q r t u c = tt
 cause_on P P' Q Q' R R' T T' U U' refusal.NoChat p q r t u c = tt
 cause_on P P' Q Q' R R' T T' U U' (refusal.Damaged place at) p q r t u c = tt
 cause_on P P' Q Q' R R' T T' U U' (refusal.Short input) p q r t u c = tt
+cause_on P P' Q Q' R R' T T' U U' (refusal.OtherFiles input) p q r t u c = tt
 cause_on P P' Q Q' R R' T T' U U' (refusal.OtherMe other me) p q r t u c = tt
 cause_on P P' Q Q' R R' T T' U U' refusal.NoApp p q r t u c = tt
 
@@ -174,7 +180,12 @@ open_cause P Q R T U me fault.Memory kind disk = tt
 open_cause P Q R T U me (fault.Read input) kind disk = absurd kind
 open_cause P Q R T U me (fault.Endless input) kind disk = absurd kind
 open_cause P Q R T U me (fault.Short input) kind disk = absurd kind
+open_cause P Q R T U me (fault.OtherFiles input) kind disk = absurd kind
 open_cause P Q R T U me (fault.Steps number) kind disk = absurd kind
+
+-- an input that is another one has no further cause
+pub other_cause : (P Q R T U : Type 0) (me : Bytes) (why : RunFault) → (input : Input) × (why ≡ fault.OtherFiles input) → CauseOf P Q R T U (refusal_of me why)
+other_cause P Q R T U me why (input, is) = subst (λ (e : RunFault). CauseOf P Q R T U (refusal_of me e)) (sym is) tt
 
 -- a reader that has taken nothing is not at the end of its budget
 pub some_left : (r before : steps.Reading) → r ≡ before → before.taken ≡ 0 → before.budget ≡ 2 ^ 32 → ¬ (r.taken ≡ r.budget)
@@ -210,6 +221,7 @@ pub not_words : (me : Bytes) (why : RunFault) → refusal_of me why ≢ refusal.
 not_words me (fault.Read input) is = cc
 not_words me (fault.Endless input) is = cc
 not_words me (fault.Short input) is = cc
+not_words me (fault.OtherFiles input) is = cc
 not_words me (fault.Steps number) is = cc
 not_words me fault.Full is = cc
 not_words me fault.Disk is = cc
@@ -221,6 +233,7 @@ pub not_write : (me : Bytes) (why : RunFault) → refusal_of me why ≢ refusal.
 not_write me (fault.Read input) is = cc
 not_write me (fault.Endless input) is = cc
 not_write me (fault.Short input) is = cc
+not_write me (fault.OtherFiles input) is = cc
 not_write me (fault.Steps number) is = cc
 not_write me fault.Full is = cc
 not_write me fault.Disk is = cc

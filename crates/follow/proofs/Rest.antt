@@ -8,15 +8,15 @@ use Rattle.state_image.specs.declared.position.Position.{Position}
 use Rattle.state_store.specs.States.{State}
 use Rattle.answers.specs.Answers.{answer_of}
 use Rattle.answers.specs.declared.question.Question.{Question}
-use Rattle.follower.specs.declared.fault.Input.{Input}
 use Rattle.follower.specs.declared.fault.Input.TheVariants.{Mbox, Steps}
 use Rattle.follower.specs.Reached.{Reached, Stop, reached}
 use Rattle.follower.specs.Resuming.{LiesWithin, MboxGrows, ReachSame, StepsGrow}
 use Rattle.follower.proofs.Going.{same_me}
+use Rattle.follower.proofs.Inputs.{inputs_grown}
 use Rattle.follower.proofs.Resuming.{goes_on}
 use Rattle.follow.specs.declared.status.Refusal.{Refusal}
 use Rattle.follow.specs.declared.status.Refusal.TheVariants as refusal
-use Rattle.follow.specs.Outcome.{Given, answer_at, changes, followed_from, replied, result, short_of, short_steps}
+use Rattle.follow.specs.Outcome.{Given, answer_at, changes, followed_from, replied, result, short_of, short_steps, unfit_files}
 use Rattle.follow.specs.Rest.{TheRest}
 use Rattle.follow.specs.Statuses.{answer_refusal}
 
@@ -50,10 +50,9 @@ same_answer q a b same = ap (λ (stop : Option Stop). answer_at q stop a.state) 
     by None = ap (λ (m : Mailbox). result_map_both (λ text. text) answer_refusal (answer_of m q)) same.mailbox
     by (Some why) = refl
 
--- what is answered from a state on, of the address and of what is short
-abbrev answered : Question → Given → State → Bool → Option Input → Result Bytes Refusal
-answered q g s own short =
-    replied q (followed_from g s (if own then option_map refusal.Short short else Some (refusal.OtherMe s.mailbox.me g.me)))
+-- what is answered from a state on, of the address and of what is wrong with the files
+abbrev answered : Question → Given → State → Bool → Option Refusal → Result Bytes Refusal
+answered q g s own files = replied q (followed_from g s (if own then files else Some (refusal.OtherMe s.mailbox.me g.me)))
 
 same_if : (q : Question) (g : Given) (s t : State) (own : Bool) → t.mailbox.me ≡ s.mailbox.me → ReachSame (reached t (changes g t)) (reached s (changes g s))
     → answered q g t own None ≡ answered q g s own None
@@ -62,12 +61,16 @@ same_if q g s t false me same = ap (λ (me : Bytes). Err (refusal.OtherMe me g.m
 
 pub the_rest : TheRest
 unfolding result
-the_rest q g s t mbox steps others grows grown within leads on_s on_t =
+the_rest q g s t mbox steps others grows grown within same leads on_s on_t =
     let h = goes_on s t mbox g.mbox steps g.steps g.moment others grows grown within leads on_s on_t in
     let me : t.mailbox.me ≡ s.mailbox.me = ap (λ (s : State). s.mailbox.me) leads.state ∙ same_me s leads.done in
-    let new : short_of t.position g.mbox g.steps ≡ None = long_enough t.position mbox g.mbox steps g.steps g.moment grows grown h.0 in
-    let old : short_of s.position g.mbox g.steps ≡ None = long_enough s.position mbox g.mbox steps g.steps g.moment grows grown within in
+    let new : unfit_files g t (short_of t.position g.mbox g.steps) ≡ None =
+    ap (unfit_files g t) (long_enough t.position mbox g.mbox steps g.steps g.moment grows grown h.0)
+    ∙ ap (option_map refusal.OtherFiles) (inputs_grown t.position mbox g.mbox steps g.steps g.moment grows grown h.0 (h.1 same)) in
+    let old : unfit_files g s (short_of s.position g.mbox g.steps) ≡ None =
+    ap (unfit_files g s) (long_enough s.position mbox g.mbox steps g.steps g.moment grows grown within)
+    ∙ ap (option_map refusal.OtherFiles) (inputs_grown s.position mbox g.mbox steps g.steps g.moment grows grown within same) in
     ap (answered q g t (bytes_eq t.mailbox.me g.me)) new
     ∙ ap (λ (me : Bytes). answered q g t (bytes_eq me g.me) None) me
-    ∙ same_if q g s t (bytes_eq s.mailbox.me g.me) me h.1
+    ∙ same_if q g s t (bytes_eq s.mailbox.me g.me) me h.2
     ∙ ap (answered q g s (bytes_eq s.mailbox.me g.me)) (sym old)

@@ -31,6 +31,7 @@ use Rattle.follow.specs.declared.status.Status.TheVariants as status
 use Rattle.follow.specs.Words.{request}
 use Rattle.follower.specs.Committing.{Prefix, committed}
 use Rattle.follower.specs.Feed.{Feed, feed}
+use Rattle.follower.specs.Inputs.{other_of}
 use Rattle.follower.specs.Reached.{Reached, Stop, Full, BadStep, reached}
 use Rattle.follower.specs.Spending.{Counts, counts, run_spends}
 use Rattle.trial.specs.Costs.{trial_cost}
@@ -61,10 +62,15 @@ short_steps place (Some steps) = if nat_lt (length steps) place then Some Steps 
 abbrev pub short_of : Position → Bytes → Option Bytes → Option Input
 short_of p mbox steps = if nat_lt (length mbox) p.mbox then Some Mbox else short_steps p.steps steps
 
--- why nothing is followed from a state, if so: it is of another address, or an input is short
+-- why nothing is followed from a state, if so: it is of another address, an input is short, or one is not the one that was
+-- followed
+abbrev pub unfit_files : Given → State → Option Input → Option Refusal
+unfit_files g s (Some input) = Some (refusal.Short input)
+unfit_files g s None = option_map refusal.OtherFiles (other_of s.position g.mbox g.steps)
+
 abbrev pub unfit : Given → State → Option Refusal
 unfit g s =
-    if bytes_eq s.mailbox.me g.me then option_map refusal.Short (short_of s.position g.mbox g.steps)
+    if bytes_eq s.mailbox.me g.me then unfit_files g s (short_of s.position g.mbox g.steps)
     else Some (refusal.OtherMe s.mailbox.me g.me)
 
 -- how far the changes come, or why none is made
@@ -208,6 +214,7 @@ OnLast status.NoApp P = P
 OnLast status.Steps P = P
 OnLast status.Full P = P
 OnLast status.Short P = P
+OnLast status.OtherFiles P = P
 OnLast status.OtherMe P = P
 OnLast _ P = ⊤
 

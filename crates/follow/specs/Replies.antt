@@ -15,8 +15,8 @@ use Rattle.follower.specs.declared.fault.Input.TheVariants.{Mbox}
 use Rattle.follower.specs.declared.fault.RunFault.{RunFault}
 use Rattle.follower.specs.declared.fault.RunFault.TheVariants as fault
 use Rattle.follower.specs.Committing.{AllStand}
-use Rattle.follower.specs.Feed.{mails_left}
-use Rattle.follower.specs.Following.{Following, mails_ahead}
+use Rattle.follower.specs.Feed.{Files, mails_left}
+use Rattle.follower.specs.Following.{Following, StandsInMbox, mails_ahead}
 use Rattle.follower.specs.Reached.{Reached, Full, BadStep}
 use Rattle.follow.specs.declared.status.Refusal.{Refusal}
 use Rattle.follow.specs.declared.status.Refusal.TheVariants as refusal
@@ -45,6 +45,8 @@ pub record Begun (me bytes : Bytes) (stand : Result State (Place × ℕ)) (f : F
   pub rest : Bytes
   pub left_is : left ≡ Some rest
   pub ahead : mails_ahead f rest ≡ mails_left f.keeper.state.position bytes
+  pub place : f.mbox.place ≡ f.keeper.state.position.mbox
+  pub mbox_stands : (files : Files) → files.mbox ≡ bytes → StandsInMbox files f rest
   pub known : IsKnown seen (λ places. stands me places ≡ Ok f.keeper.state)
 
 -- the mbox ends before the position of the state that stands
@@ -77,6 +79,7 @@ abbrev pub FollowStops : RunFault → Given → (Places → Type 0) → Type 0
 FollowStops (fault.Read input) g outcomes = ⊤
 FollowStops (fault.Endless input) g outcomes = ⊤
 FollowStops (fault.Short input) g outcomes = (followed g ≡ Err (refusal.Short input)) × KeepsAll g outcomes
+FollowStops (fault.OtherFiles input) g outcomes = (followed g ≡ Err (refusal.OtherFiles input)) × KeepsAll g outcomes
 FollowStops (fault.Steps number) g outcomes = (r : Reached) × (followed g ≡ Ok r) × (r.stop ≡ Some (BadStep number)) × KeepsAll g outcomes
 FollowStops fault.Full g outcomes = (r : Reached) × (followed g ≡ Ok r) × (r.stop ≡ Some Full) × KeepsAll g outcomes
 FollowStops fault.Disk g outcomes = ⊤

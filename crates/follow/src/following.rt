@@ -1,4 +1,5 @@
 //! A run follows its files: it opens what is kept, goes on from there, and commits.
+ghost use Rattle.kit.specs.Chains.{no_cut};
 ghost use Rattle.std.specs.Prelude.{◌≡◌, ◌≤◌, ◌+◌, ◌^◌, ◌&&◌, List, ℕ, [], None, Some, false, IfErr, IfOk, IfSome, OnOk, is_none, not, unwrap_or};
 ghost use Rattle.kit.specs.Moments.{last_moment};
 ghost use Rattle.mailbox_model.specs.Lists.{Bytes};
@@ -15,8 +16,8 @@ ghost use Rattle.mboxrd.specs.Mails.{Mail};
 ghost use Rattle.mboxrd.specs.Reading as mbox_reading;
 ghost use Rattle.steps_file.specs.Reading as steps_reading;
 ghost use Rattle.follower.specs.Committing.{EndGoes, Prefix, outset};
-ghost use Rattle.follower.specs.Feed.{Feed, mails_feed};
-ghost use Rattle.follower.specs.Following.{IsCause, IsFollowFault, mails_ahead, to_come};
+ghost use Rattle.follower.specs.Feed.{Feed, Files, mails_feed};
+ghost use Rattle.follower.specs.Following.{IsCause, IsFollowFault, StandsInMbox, StandsInSteps, mails_ahead, to_come};
 ghost use Rattle.follower.specs.Spending.{RoseWithin, counts};
 ghost use Rattle.follow.specs.Outcome.{AsksClock, CauseOf, ClockGives, Found, MayStand, SameState, TakesAll, TakesUpTo, Tells, TellsSteps, follow_spends, given_of, mbox_budget, mbox_found, steps_budget, steps_found};
 ghost use Rattle.follow.specs.Replies.{BeginGoes, FollowGoes, IsState, Took};
@@ -60,7 +61,7 @@ fn begin<M: Source, H: Shelf, L: Ledger>(
     ensures kept { IfOk result (λ f. WhereKnown (H.seen shelf.new) (IsKept f.keeper)) }
     ensures stored { IfOk result (λ f. WhereKnown (H.seen shelf.new) (IsStored f.keeper.store (H.may_leave shelf.new))) }
     ensures mbox_took { IfOk result (λ f. Took (M.left mbox.old) (M.left mbox.new) mbox_budget (mbox_reading.buffered f.mbox)) }
-    ensures lines { IfOk result (λ f. (f.lines.held ≡ []) × (f.lines.taken ≡ 0) × (f.lines.budget ≡ 2 ^ 32)) }
+    ensures lines { IfOk result (λ f. (f.lines.held ≡ []) × (f.lines.taken ≡ 0) × (f.lines.budget ≡ 2 ^ 32) × (f.lines.place ≡ 0) × (f.lines.trace ≡ no_cut)) }
     ensures mbox_later { M.faults mbox.old ≤ M.faults mbox.new }
     ensures shelf_later { H.faults shelf.old ≤ H.faults shelf.new }
     ensures cause { IfErr result (λ why. CauseOf (Rose (M.faults mbox.old) (M.faults mbox.new)) ⊥ (Rose (H.faults shelf.old) (H.faults shelf.new))
@@ -85,10 +86,10 @@ fn follow_mails_to_end<M: Source, H: Shelf, L: Ledger>(
     requires pending { follower.old.keeper.pending ≡ none_pending }
     requires kept { WhereKnown (H.seen shelf.old) (IsKept follower.old.keeper) }
     requires stored { WhereKnown (H.seen shelf.old) (IsStored follower.old.keeper.store (H.may_leave shelf.old)) }
-    ensures goes { (rest : Bytes) (mails : List Mail) → M.left mbox.old ≡ Some rest → mails ≡ mails_ahead follower.old rest
-        → IsKnown (H.seen shelf.old) (IsState follower.old.keeper.state)
-        → LeavesOnly H.moment H.left_since shelf.old shelf.new (Prefix follower.old.keeper.state (mails_feed follower.old.keeper.state mails (Some moment)))
-        × EndGoes result (outset follower.old.keeper (counts steps.old (H.written shelf.old))) (mails_feed follower.old.keeper.state mails (Some moment))
+    ensures goes { (files : Files) (rest : Bytes) (mails : List Mail) → M.left mbox.old ≡ Some rest → StandsInMbox files follower.old rest
+        → mails ≡ mails_ahead follower.old rest → IsKnown (H.seen shelf.old) (IsState follower.old.keeper.state)
+        → LeavesOnly H.moment H.left_since shelf.old shelf.new (Prefix follower.old.keeper.state (mails_feed files follower.old.keeper.state mails (Some moment)))
+        × EndGoes result (outset follower.old.keeper (counts steps.old (H.written shelf.old))) (mails_feed files follower.old.keeper.state mails (Some moment))
         follower.new.keeper (counts steps.new (H.written shelf.new)) (H.may_leave shelf.new) }
     ensures usable { OnOk result (follower.new.failed ≡ false) }
     ensures mbox_later { M.faults mbox.old ≤ M.faults mbox.new }
@@ -118,8 +119,9 @@ fn follow_lines_to_end<M: Source, S: Source, H: Shelf, L: Ledger>(
     requires place { follower.old.lines.place ≡ follower.old.keeper.state.position.steps }
     requires kept { WhereKnown (H.seen shelf.old) (IsKept follower.old.keeper) }
     requires stored { WhereKnown (H.seen shelf.old) (IsStored follower.old.keeper.store (H.may_leave shelf.old)) }
-    ensures goes { (rest left : Bytes) (feed : Feed) → M.left mbox.old ≡ Some rest → S.left steps_file.old ≡ Some left
-        → feed ≡ to_come last follower.old rest (Some left) → IsKnown (H.seen shelf.old) (IsState follower.old.keeper.state)
+    ensures goes { (files : Files) (rest left : Bytes) (feed : Feed) → M.left mbox.old ≡ Some rest → S.left steps_file.old ≡ Some left
+        → StandsInMbox files follower.old rest → StandsInSteps files follower.old left
+        → feed ≡ to_come files last follower.old rest (Some left) → IsKnown (H.seen shelf.old) (IsState follower.old.keeper.state)
         → LeavesOnly H.moment H.left_since shelf.old shelf.new (Prefix follower.old.keeper.state feed)
         × EndGoes result (outset follower.old.keeper (counts steps.old (H.written shelf.old))) feed
         follower.new.keeper (counts steps.new (H.written shelf.new)) (H.may_leave shelf.new) }
@@ -167,6 +169,7 @@ fn follow_mbox<M: Source, H: Shelf, C: Clock, L: Ledger>(
 {
     let moment = moment_or_now(at, clock);
     let mut follower = begin(alloc, me, mbox, shelf, steps)?;
+    follower.check_inputs(false)?;
     follow_mails_to_end(&mut follower, moment, mbox, shelf, steps)?;
     Ok(follower)
 }
@@ -202,6 +205,7 @@ fn follow_steps<M: Source, S: Source, H: Shelf, L: Ledger>(
 {
     let mut follower = begin(alloc, me, mbox, shelf, steps)?;
     follower.start_lines(steps_file)?;
+    follower.check_inputs(true)?;
     follow_lines_to_end(&mut follower, at, mbox, steps_file, shelf, steps)?;
     Ok(follower)
 }

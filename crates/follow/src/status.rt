@@ -37,6 +37,8 @@ pub enum Status {
     Damaged,
     /// An input ends before the place up to which it was followed.
     Short,
+    /// An input is not the one that was followed.
+    OtherFiles,
     /// The kept state is of another address.
     OtherMe,
     /// An input did not end within the bytes that may be taken of it.
@@ -66,6 +68,7 @@ impl Status {
             Status::Short => 10,
             Status::OtherMe => 11,
             Status::Endless => 12,
+            Status::OtherFiles => 13,
             Status::NoApp => 14,
         }
     }
@@ -94,6 +97,8 @@ pub enum Refusal {
     Damaged(Place, u64),
     /// The input ends before the place up to which it was followed.
     Short(Input),
+    /// The input is not the one that was followed: its first bytes are others.
+    OtherFiles(Input),
     /// What is kept is the mailbox of the first address, and not of the second.
     OtherMe(Addr, Addr),
     /// As many bytes of the input were taken as may be, and one more was needed.
@@ -124,6 +129,7 @@ impl fmt::Display for Refusal {
             Refusal::NoChat => f.write_str("no such chat"),
             Refusal::Damaged(place, at) => write!(f, "damaged {place} at {at}"),
             Refusal::Short(input) => write!(f, "short {input}"),
+            Refusal::OtherFiles(input) => write!(f, "other {input}"),
             Refusal::OtherMe(kept, me) => write!(f, "other address {kept}, not {me}"),
             Refusal::Endless(input) => write!(f, "endless {input}"),
             Refusal::NoApp => f.write_str("no such app"),
@@ -178,6 +184,7 @@ impl Refusal {
             RunFault::Read(input) => Refusal::Read(input),
             RunFault::Endless(input) => Refusal::Endless(input),
             RunFault::Short(input) => Refusal::Short(input),
+            RunFault::OtherFiles(input) => Refusal::OtherFiles(input),
             RunFault::Steps(line) => Refusal::Steps(line),
             RunFault::Full => Refusal::Full,
             RunFault::Disk => Refusal::Disk,
@@ -202,6 +209,7 @@ impl Refusal {
             Refusal::NoChat => Status::NoChat,
             Refusal::Damaged(..) => Status::Damaged,
             Refusal::Short(_) => Status::Short,
+            Refusal::OtherFiles(_) => Status::OtherFiles,
             Refusal::OtherMe(..) => Status::OtherMe,
             Refusal::Endless(_) => Status::Endless,
             Refusal::NoApp => Status::NoApp,

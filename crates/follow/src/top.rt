@@ -208,7 +208,8 @@ fn run_given<M: Source, S: Source, H: Shelf, C: Clock, K: Sink, L: Ledger>(
 /// - `Steps` comes exactly at the first ended line of the steps file that is no step, or takes the next mail where there
 ///   is none; `Full` exactly at an arrival for which the mailbox has no place, or after 2^62 changes, also in a trial.
 /// - `Damaged` comes exactly where what is kept is damaged, `OtherMe` exactly where it is the mailbox of another address, and
-///   `Short` exactly where an input ends before the place up to which it was followed.
+///   `Short` exactly where an input ends before the place up to which it was followed. `OtherFiles` comes exactly where none
+///   is short, and the first bytes of an input are not those that were followed: its kept trace is not theirs.
 /// - `NoChat` comes exactly where KEY is the text of no key in the list, and `NoApp` exactly where ID is the id of no
 ///   shown app.
 pub fn run<M: Source, S: Source, H: Shelf, C: Clock, K: Sink, L: Ledger>(

@@ -95,6 +95,7 @@ cause_since P P' Q Q' R R' new (fault.Endless Mbox) p q r h = h
 cause_since P P' Q Q' R R' new (fault.Endless Steps) p q r h = h
 cause_since P P' Q Q' R R' new fault.Disk p q r h = r h
 cause_since P P' Q Q' R R' new (fault.Short input) p q r h = tt
+cause_since P P' Q Q' R R' new (fault.OtherFiles input) p q r h = tt
 cause_since P P' Q Q' R R' new (fault.Steps number) p q r h = tt
 cause_since P P' Q Q' R R' new (fault.Damaged place at) p q r h = tt
 cause_since P P' Q Q' R R' new (fault.OtherMe other) p q r h = tt

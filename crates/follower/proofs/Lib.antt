@@ -4,6 +4,8 @@ pub mod Going
 pub mod Spending
 pub mod Committing
 pub mod Rounds
+pub mod Inputs
+pub mod Starting
 pub mod NextChange
 pub mod Resuming
 mod FeedRows

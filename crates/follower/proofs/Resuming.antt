@@ -10,9 +10,10 @@ use Rattle.state_image.specs.declared.position.Position.{Position}
 use Rattle.state_store.specs.States.{State, max_changes}
 use Rattle.keeper.specs.Keeping.{is_refused}
 use Rattle.arrivals.specs.Arrivals.{arrival_of}
-use Rattle.follower.specs.Feed.{Fed, Feed, End, after_fed, counted, ends, fed_first, feed, mail_fed, mails_fed, mails_left, moment_fed}
+use Rattle.follower.specs.Feed.{Fed, Feed, Files, End, after_fed, counted, ends, fed_first, feed, files_of, mail_fed, mails_fed, mails_left, moment_fed}
 use Rattle.follower.specs.Going.{AreMade, Leads, after_feds, fed_all}
 use Rattle.follower.specs.Reached.{Reached, Full, reached}
+use Rattle.follower.specs.Inputs.{AreSame}
 use Rattle.follower.specs.Resuming.{ChangesGoOn, CountsOn, LiesWithin, MboxGrows, ReachSame, StepsGrow}
 use Rattle.follower.proofs.Going.{made}
 use Rattle.follower.proofs.NextChange.{ComesLast, Follows, ahead, first_is, next_follows, no_first}
@@ -41,17 +42,17 @@ room_counts s f others on = elim (cases_eq s.position.count max_changes) [
 ]
 
 -- mails that are counted from elsewhere
-same_mails : (m : Mailbox) (p q : Position) (uid : ℕ) (mails : List Mail)
-    → CountsOn (reached (record { mailbox = m; position = p }) (mails_fed uid p mails)) → CountsOn (reached (record { mailbox = m; position = q }) (mails_fed uid q mails))
-    → ReachSame (reached (record { mailbox = m; position = p }) (mails_fed uid p mails)) (reached (record { mailbox = m; position = q }) (mails_fed uid q mails))
-same_mails m p q uid [] on_p on_q = record { stop = refl; mailbox = refl }
-same_mails m p q uid (mail ∷ mails) on_p on_q =
+same_mails : (files : Files) (m : Mailbox) (p q : Position) (uid : ℕ) (mails : List Mail)
+    → CountsOn (reached (record { mailbox = m; position = p }) (mails_fed files uid p mails)) → CountsOn (reached (record { mailbox = m; position = q }) (mails_fed files uid q mails))
+    → ReachSame (reached (record { mailbox = m; position = p }) (mails_fed files uid p mails)) (reached (record { mailbox = m; position = q }) (mails_fed files uid q mails))
+same_mails files m p q uid [] on_p on_q = record { stop = refl; mailbox = refl }
+same_mails files m p q uid (mail ∷ mails) on_p on_q =
     let s : State = record { mailbox = m; position = p } in
     let t : State = record { mailbox = m; position = q } in
-    let f = mail_fed uid p mail in
-    let g = mail_fed uid q mail in
-    let fs = mails_fed (uid + 1) f.position mails in
-    let gs = mails_fed (uid + 1) g.position mails in
+    let f = mail_fed files uid p mail in
+    let g = mail_fed files uid q mail in
+    let fs = mails_fed files (uid + 1) f.position mails in
+    let gs = mails_fed files (uid + 1) g.position mails in
     let full_s = room_counts s f fs on_p in
     let full_t = room_counts t g gs on_q in
     elim (cases_Bool (full m (arrival_of uid mail))) [
@@ -62,7 +63,7 @@ same_mails m p q uid (mail ∷ mails) on_p on_q =
           let a = made s f fs (full_s ∙ h) in
           let b = made t g gs (full_t ∙ h) in
           between (reached s (fed_first f fs)) (reached (after_fed s f) fs) (reached (after_fed t g) gs) (reached t (fed_first g gs))
-          a (same_mails (after m f.change) f.position g.position (uid + 1) mails (subst CountsOn a on_p) (subst CountsOn b on_q)) b
+          a (same_mails files (after m f.change) f.position g.position (uid + 1) mails (subst CountsOn a on_p) (subst CountsOn b on_q)) b
     ]
 
 -- ---- moments
@@ -93,6 +94,7 @@ moment_made s moment others on = let f = moment_fed s.position moment in made s 
 record GoesOn (last : Option ℕ) (s t : State) (mbox longer : Bytes) (steps more : Option Bytes) : Type 0 where
   same : reached s (ahead last s longer more) ≡ reached t (ahead last t longer more)
   within : LiesWithin t.position mbox steps
+  inputs : AreSame s.position mbox steps → AreSame t.position mbox steps
 
 -- They were all, and the last one was the moment that comes last. From the state after it comes the same moment.
 record AllWere (last : Option ℕ) (s t : State) (mbox longer : Bytes) (steps more : Option Bytes) : Type 0 where
@@ -102,6 +104,7 @@ record AllWere (last : Option ℕ) (s t : State) (mbox longer : Bytes) (steps mo
   again : ahead last t longer more ≡ fed_first (moment_fed t.position moment) (ends End)
   past : moment ≤ t.mailbox.now
   within : LiesWithin t.position mbox steps
+  inputs : AreSame s.position mbox steps → AreSame t.position mbox steps
 
 module _ (last : Option ℕ) (mbox longer : Bytes) (steps more : Option Bytes) (grows : MboxGrows mbox longer) (grown : StepsGrow steps more last) where
   abbrev Goes : State → State → Type 0
@@ -109,7 +112,7 @@ module _ (last : Option ℕ) (mbox longer : Bytes) (steps more : Option Bytes) (
 
   -- one change before
   one_before : (s t : State) (f : Fed) (others : Feed) → is_refused s f.change ≡ false → Follows last s f others mbox longer steps more → Goes (after_fed s f) t → Goes s t
-  one_before s t f others room h (inl g) = inl (record { same = ap (reached s) h.now ∙ made s f (ahead last (after_fed s f) longer more) room ∙ g.same; within = g.within })
+  one_before s t f others room h (inl g) = inl (record { same = ap (reached s) h.now ∙ made s f (ahead last (after_fed s f) longer more) room ∙ g.same; within = g.within; inputs = λ same. g.inputs (h.inputs same) })
   one_before s t f others room h (inr g) = inr (record {
     moment = g.moment;
     comes = g.comes;
@@ -117,6 +120,7 @@ module _ (last : Option ℕ) (mbox longer : Bytes) (steps more : Option Bytes) (
     again = g.again;
     past = g.past;
     within = g.within;
+    inputs = λ same. g.inputs (h.inputs same);
   })
 
   -- the moment that comes last, and nothing after it
@@ -128,31 +132,34 @@ module _ (last : Option ℕ) (mbox longer : Bytes) (steps more : Option Bytes) (
     again = h.again;
     past = subst (λ (x : Fed). h.moment ≤ (after_fed s x).mailbox.now) h.is (let e : h.moment ≤ max s.mailbox.now h.moment = omega arith in e);
     within = h.within;
+    inputs = h.inputs;
   })
   at_last s f (g ∷ fs) others room h = absurd (no_first End g (fed_all fs others) h.none)
 
   all_go : (done : List Fed) (s : State) (others : Feed) → LiesWithin s.position mbox steps → ahead last s mbox steps ≡ fed_all done others → AreMade s done → Goes s (after_feds s done)
-  all_go [] s others within e all_made = inl (record { same = refl; within = within })
+  all_go [] s others within e all_made = inl (record { same = refl; within = within; inputs = λ same. same })
   all_go (f ∷ fs) s others within e all_made = elim (next_follows last s f (fed_all fs others) mbox longer steps more grows grown within e) [
     | inl h ↦ one_before s (after_feds s (f ∷ fs)) f (fed_all fs others) all_made.0 h (all_go fs (after_fed s f) others h.within h.before all_made.1)
     | inr h ↦ at_last s f fs others all_made.0 h
   ]
 
 -- where a run that comes to one feed comes to another one over the files as they are now
-abbrev Comes : State → State → Bytes → Bytes → Option Bytes → Feed → Feed → Type 0
-Comes s t mbox longer steps from_t from_s = LiesWithin t.position mbox steps × ReachSame (reached t from_t) (reached s from_s)
+abbrev pub Comes : State → State → Bytes → Bytes → Option Bytes → Feed → Feed → Type 0
+Comes s t mbox longer steps from_t from_s =
+    LiesWithin t.position mbox steps × (AreSame s.position mbox steps → AreSame t.position mbox steps) × ReachSame (reached t from_t) (reached s from_s)
 
 -- the moment that comes last may come twice
 comes_last : (last : Option ℕ) (mbox longer : Bytes) (steps more : Option Bytes) (s t : State) → CountsOn (reached t (ahead last t longer more))
     → GoesOn last s t mbox longer steps more ⊎ AllWere last s t mbox longer steps more → Comes s t mbox longer steps (ahead last t longer more) (ahead last s longer more)
 comes_last last mbox longer steps more s t on (inl g) =
     let there = reached t (ahead last t longer more) in
-    (g.within, between there there there (reached s (ahead last s longer more)) refl (record { stop = refl; mailbox = refl }) g.same)
+    (g.within, g.inputs, between there there there (reached s (ahead last s longer more)) refl (record { stop = refl; mailbox = refl }) g.same)
 comes_last last mbox longer steps more s t on (inr g) =
     let after_it : State = after_fed t (moment_fed t.position g.moment) in
     let once : reached t (ahead last t longer more) ≡ record { state = after_it; stop = None } =
     ap (reached t) g.again ∙ moment_made t g.moment (ends End) (subst (λ (feed : Feed). CountsOn (reached t feed)) g.again on) in (
       g.within,
+      g.inputs,
       between (reached t (ahead last t longer more)) (record { state = after_it; stop = None }) (record { state = t; stop = None }) (reached s (ahead last s longer more))
           once (record { stop = refl; mailbox = passed t.mailbox g.moment g.past }) g.all,
     )
@@ -174,14 +181,15 @@ module _ (mbox longer : Bytes) (grows : MboxGrows mbox longer) (moment : ℕ) (s
       let uid = t.mailbox.next_uid in
       let second = moment_fed t.position moment in
       let again : State = record { mailbox = t.mailbox; position = counted t.position } in
-      let one : reached s (from_here s) ≡ reached t (mails_fed uid t.position mails) =
+      let one : reached s (from_here s) ≡ reached t (mails_fed (files_of longer None) uid t.position mails) =
       moment_made s moment (ahead None (after_fed s first) longer None) on_s ∙ g.same in
-      let two : reached t (from_here t) ≡ reached again (mails_fed uid (counted t.position) mails) =
+      let two : reached t (from_here t) ≡ reached again (mails_fed (files_of longer None) uid (counted t.position) mails) =
       moment_made t moment (ahead None (after_fed t second) longer None) on_t
-      ∙ ap (λ (m : Mailbox). reached (record { mailbox = m; position = counted t.position }) (mails_fed m.next_uid (counted t.position) mails)) (passed t.mailbox moment past) in (
+      ∙ ap (λ (m : Mailbox). reached (record { mailbox = m; position = counted t.position }) (mails_fed (files_of longer None) m.next_uid (counted t.position) mails)) (passed t.mailbox moment past) in (
         g.within,
-        between (reached t (from_here t)) (reached again (mails_fed uid (counted t.position) mails)) (reached t (mails_fed uid t.position mails)) (reached s (from_here s))
-            two (same_mails t.mailbox (counted t.position) t.position uid mails (subst CountsOn two on_t) (subst CountsOn one on_s)) one,
+        g.inputs,
+        between (reached t (from_here t)) (reached again (mails_fed (files_of longer None) uid (counted t.position) mails)) (reached t (mails_fed (files_of longer None) uid t.position mails)) (reached s (from_here s))
+            two (same_mails (files_of longer None) t.mailbox (counted t.position) t.position uid mails (subst CountsOn two on_t) (subst CountsOn one on_s)) one,
       )
 
   after_first : (fs : List Fed) (others : Feed) → ahead None (after_fed s first) mbox None ≡ fed_all fs others → AreMade (after_fed s first) fs
@@ -199,7 +207,7 @@ module _ (mbox longer : Bytes) (grows : MboxGrows mbox longer) (moment : ℕ) (s
   comes_first : (done : List Fed) (others : Feed) → feed s mbox None (Some moment) ≡ fed_all done others → AreMade s done
       → CountsOn (reached s (from_here s)) → CountsOn (reached (after_feds s done) (from_here (after_feds s done)))
       → Comes s (after_feds s done) mbox longer None (from_here (after_feds s done)) (from_here s)
-  comes_first [] others e all_made on_s on_t = (within, record { stop = refl; mailbox = refl })
+  comes_first [] others e all_made on_s on_t = (within, (λ same. same), record { stop = refl; mailbox = refl })
   comes_first (f ∷ fs) others e all_made on_s on_t =
       let h = first_is first f (ahead None (after_fed s first) mbox None) (fed_all fs others) e in
       subst (λ (x : Fed). AreMade (after_fed s x) fs → CountsOn (reached (after_feds s (x ∷ fs)) (from_here (after_feds s (x ∷ fs))))
@@ -226,11 +234,11 @@ all_come s mbox longer (Some steps) None moment done others grows grown within e
 pub goes_on : (s t : State) (mbox longer : Bytes) (steps more : Option Bytes) (moment : Option ℕ) (others : Feed)
     → MboxGrows mbox longer → StepsGrow steps more moment → LiesWithin s.position mbox steps → Leads s (feed s mbox steps moment) t others
     → CountsOn (reached s (feed s longer more moment)) → CountsOn (reached t (feed t longer more moment))
-    → LiesWithin t.position mbox steps × ReachSame (reached t (feed t longer more moment)) (reached s (feed s longer more moment))
+    → Comes s t mbox longer steps (feed t longer more moment) (feed s longer more moment)
 goes_on s t mbox longer steps more moment others grows grown within leads on_s on_t =
     subst (λ (t : State). CountsOn (reached t (feed t longer more moment)) → Comes s t mbox longer steps (feed t longer more moment) (feed s longer more moment)) (sym leads.state)
     (λ on. all_come s mbox longer steps more moment leads.done others grows grown within leads.first leads.made on_s on) on_t
 
 pub changes_go_on : ChangesGoOn
 changes_go_on s t mbox longer steps more moment others grows grown within leads on_s on_t =
-    (goes_on s t mbox longer steps more moment others grows grown within leads on_s on_t).1
+    (goes_on s t mbox longer steps more moment others grows grown within leads on_s on_t).2

@@ -20,77 +20,108 @@ use Rattle.follower.specs.declared.fault.RunFault.{RunFault}
 use Rattle.follower.specs.declared.fault.RunFault.TheVariants as fault
 use Rattle.follower.specs.declared.follower.Turned.{Turned}
 use Rattle.follower.specs.declared.follower.Turned.TheVariants as turned
-use Rattle.follower.specs.Feed.{Fed, Feed, End, after_fed, ends, fed_first, last_fed, moment_fed}
-use Rattle.follower.specs.Following.{Following, TurnAdds, TurnCosts, TurnGoes, to_come}
+use Rattle.follower.specs.Feed.{Fed, Feed, Files, End, after_fed, ends, fed_first, last_fed, moment_fed}
+use Rattle.follower.specs.Following.{Following, LineCosts, LineTurn, MailCosts, MailTurn, OnApplied, StandsInMbox, StandsInSteps, TurnAdds, TurnCosts, TurnGoes, to_come}
 use Rattle.follower.specs.Going.{RefusesFirst, StopsAt}
 use Rattle.follower.specs.Reached.{BadStep, Full, count_made, reached}
 use Rattle.follower.specs.Committing.{CommitGoes, EndGoes, HaltsAt, IsWhole, LastGoes, LastToCome, LinesToCome, MailsToCome, NothingToCome, OnWay, Outset, Prefix, RoundGoes, SpendsWithin, Stops, Way}
 use Rattle.follower.specs.Spending.{Counts, RoseWithin, counts, next_cost}
 use Rattle.touched_chats.specs.Costs.{change_cost}
 use Rattle.follower.proofs.Spending.{next_is, stays_within}
+use Rattle.follower.proofs.Turning.{mbox_stands_as, steps_stand_as}
 use Rattle.follower.proofs.Committing.{ends_all, full_rose, full_spends, halts, last_spends, prefix_commit, prefix_kept, way_committed, way_on, way_spends, whole_of_256, whole_of_all}
 
 -- ---- what a turn says, where the bytes are known
 
-pub mail_turn : (l m : Option Bytes) (old new : Following) (r : Result Turned RunFault) (others : Feed)
-    → IfKnown l m (λ before after. TurnGoes None r old (to_come None old before None) new (to_come None new after None)) → MailsToCome old l others
-    → (later : Feed) × MailsToCome new m later × TurnGoes None r old others new later
-mail_turn None m old new r others go (bytes, is, ahead) = absurd cc
-mail_turn (Some b) None old new r others go (bytes, is, ahead) = absurd go
-mail_turn (Some b) (Some a) old new r others go (bytes, is, ahead) =
-    let same : b ≡ bytes = cc in
-    let here : to_come None old b None ≡ others = ap (λ (x : Bytes). to_come None old x None) same ∙ sym ahead in
-    (to_come None new a None, (a, refl, refl), subst (λ (f : Feed). TurnGoes None r old f new (to_come None new a None)) here go)
+on_applied : (r : Result Turned RunFault) (P Q : Type 0) → (P → Q) → OnApplied r P → OnApplied r Q
+on_applied (Ok turned.Applied) P Q f p = f p
+on_applied (Ok turned.End) P Q f p = tt
+on_applied (Err why) P Q f p = tt
 
-pub line_turn : (l m j k : Option Bytes) (last : Option ℕ) (old new : Following) (r : Result Turned RunFault) (others : Feed)
-    → IfKnown l m (λ mails_before mails_after. IfKnown j k (λ before after.
-    TurnGoes last r old (to_come last old mails_before (Some before)) new (to_come last new mails_after (Some after)))) → LinesToCome last old l j others
-    → (later : Feed) × LinesToCome last new m k later × TurnGoes last r old others new later
-line_turn None m j k last old new r others go (bytes, lines, is, are, ahead) = absurd cc
-line_turn (Some b) None j k last old new r others go (bytes, lines, is, are, ahead) = absurd go
-line_turn (Some b) (Some a) None k last old new r others go (bytes, lines, is, are, ahead) = absurd cc
-line_turn (Some b) (Some a) (Some s) None last old new r others go (bytes, lines, is, are, ahead) = absurd go
-line_turn (Some b) (Some a) (Some s) (Some t) last old new r others go (bytes, lines, is, are, ahead) =
-    let same : b ≡ bytes = cc in
-    let alike : s ≡ lines = cc in
-    let here : to_come last old b (Some s) ≡ others = (λ i. to_come last old (same i) (Some (alike i))) ∙ sym ahead in
-    (to_come last new a (Some t), (a, t, refl, refl, refl), subst (λ (f : Feed). TurnGoes last r old f new (to_come last new a (Some t))) here go)
+pub mail_turn : (files : Files) (l m : Option Bytes) (old new : Following) (r : Result Turned RunFault) (others : Feed)
+    → IfKnown l m (λ before after. MailTurn files r old before new after) → MailsToCome files old l others
+    → (later : Feed) × OnApplied r (MailsToCome files new m later) × TurnGoes None r old others new later
+mail_turn files None m old new r others go comes = let never : None ≡ Some comes.bytes = comes.told in absurd cc
+mail_turn files (Some b) None old new r others go comes = absurd go
+mail_turn files (Some b) (Some a) old new r others go comes =
+    let told : Some b ≡ Some comes.bytes = comes.told in
+    let same : b ≡ comes.bytes = cc in
+    let went = go (subst (StandsInMbox files old) (sym same) comes.stands) in
+    let later = to_come files None new a None in
+    let here : to_come files None old b None ≡ others = ap (λ (x : Bytes). to_come files None old x None) same ∙ sym comes.is in (
+      later,
+      on_applied r (StandsInMbox files new a) (MailsToCome files new (Some a) later) (λ stands. record { bytes = a; told = refl; stands = stands; is = refl }) went.1,
+      subst (λ (f : Feed). TurnGoes None r old f new later) here went.0,
+    )
+
+pub line_turn : (files : Files) (l m j k : Option Bytes) (last : Option ℕ) (old new : Following) (r : Result Turned RunFault) (others : Feed)
+    → IfKnown l m (λ mails_before mails_after. IfKnown j k (λ before after. LineTurn files last r old mails_before before new mails_after after)) → LinesToCome files last old l j others
+    → (later : Feed) × OnApplied r (LinesToCome files last new m k later) × TurnGoes last r old others new later
+line_turn files None m j k last old new r others go comes = let never : None ≡ Some comes.bytes = comes.mbox_told in absurd cc
+line_turn files (Some b) None j k last old new r others go comes = absurd go
+line_turn files (Some b) (Some a) None k last old new r others go comes = let never : None ≡ Some comes.lines = comes.steps_told in absurd cc
+line_turn files (Some b) (Some a) (Some s) None last old new r others go comes = absurd go
+line_turn files (Some b) (Some a) (Some s) (Some t) last old new r others go comes =
+    let told : Some b ≡ Some comes.bytes = comes.mbox_told in
+    let lines_told : Some s ≡ Some comes.lines = comes.steps_told in
+    let same : b ≡ comes.bytes = cc in
+    let alike : s ≡ comes.lines = cc in
+    let went = go (subst (StandsInMbox files old) (sym same) comes.mbox_stands) (subst (StandsInSteps files old) (sym alike) comes.steps_stands) in
+    let later = to_come files last new a (Some t) in
+    let here : to_come files last old b (Some s) ≡ others = (λ i. to_come files last old (same i) (Some (alike i))) ∙ sym comes.is in (
+      later,
+      on_applied r (StandsInMbox files new a × StandsInSteps files new t) (LinesToCome files last new (Some a) (Some t) later)
+          (λ stands. record { bytes = a; lines = t; mbox_told = refl; steps_told = refl; mbox_stands = stands.0; steps_stands = stands.1; is = refl }) went.1,
+      subst (λ (f : Feed). TurnGoes last r old f new later) here went.0,
+    )
 
 -- what it reads
-pub mail_costs : (l m : Option Bytes) (old : Following) (r : Result Turned RunFault) (from to : ℕ) (others : Feed)
-    → IfKnown l m (λ before _. TurnCosts r old.keeper.state (to_come None old before None) from to) → MailsToCome old l others → TurnCosts r old.keeper.state others from to
-mail_costs None m old r from to others costs (bytes, is, ahead) = absurd cc
-mail_costs (Some b) None old r from to others costs (bytes, is, ahead) = absurd costs
-mail_costs (Some b) (Some a) old r from to others costs (bytes, is, ahead) =
-    let same : b ≡ bytes = cc in
-    subst (λ (f : Feed). TurnCosts r old.keeper.state f from to) (ap (λ (x : Bytes). to_come None old x None) same ∙ sym ahead) costs
+pub mail_costs : (files : Files) (l m : Option Bytes) (old : Following) (r : Result Turned RunFault) (from to : ℕ) (others : Feed)
+    → IfKnown l m (λ before _. MailCosts files r old before from to) → MailsToCome files old l others → TurnCosts r old.keeper.state others from to
+mail_costs files None m old r from to others costs comes = let never : None ≡ Some comes.bytes = comes.told in absurd cc
+mail_costs files (Some b) None old r from to others costs comes = absurd costs
+mail_costs files (Some b) (Some a) old r from to others costs comes =
+    let told : Some b ≡ Some comes.bytes = comes.told in
+    let same : b ≡ comes.bytes = cc in
+    subst (λ (f : Feed). TurnCosts r old.keeper.state f from to) (ap (λ (x : Bytes). to_come files None old x None) same ∙ sym comes.is)
+    (costs (subst (StandsInMbox files old) (sym same) comes.stands))
 
-pub line_costs : (l m j k : Option Bytes) (last : Option ℕ) (old : Following) (r : Result Turned RunFault) (from to : ℕ) (others : Feed)
-    → IfKnown l m (λ mails_before _. IfKnown j k (λ before _. TurnCosts r old.keeper.state (to_come last old mails_before (Some before)) from to))
-    → LinesToCome last old l j others → TurnCosts r old.keeper.state others from to
-line_costs None m j k last old r from to others costs (bytes, lines, is, are, ahead) = absurd cc
-line_costs (Some b) None j k last old r from to others costs (bytes, lines, is, are, ahead) = absurd costs
-line_costs (Some b) (Some a) None k last old r from to others costs (bytes, lines, is, are, ahead) = absurd cc
-line_costs (Some b) (Some a) (Some s) None last old r from to others costs (bytes, lines, is, are, ahead) = absurd costs
-line_costs (Some b) (Some a) (Some s) (Some t) last old r from to others costs (bytes, lines, is, are, ahead) =
-    let same : b ≡ bytes = cc in
-    let alike : s ≡ lines = cc in
-    subst (λ (f : Feed). TurnCosts r old.keeper.state f from to) ((λ i. to_come last old (same i) (Some (alike i))) ∙ sym ahead) costs
+pub line_costs : (files : Files) (l m j k : Option Bytes) (last : Option ℕ) (old : Following) (r : Result Turned RunFault) (from to : ℕ) (others : Feed)
+    → IfKnown l m (λ mails_before _. IfKnown j k (λ before _. LineCosts files last r old mails_before before from to))
+    → LinesToCome files last old l j others → TurnCosts r old.keeper.state others from to
+line_costs files None m j k last old r from to others costs comes = let never : None ≡ Some comes.bytes = comes.mbox_told in absurd cc
+line_costs files (Some b) None j k last old r from to others costs comes = absurd costs
+line_costs files (Some b) (Some a) None k last old r from to others costs comes = let never : None ≡ Some comes.lines = comes.steps_told in absurd cc
+line_costs files (Some b) (Some a) (Some s) None last old r from to others costs comes = absurd costs
+line_costs files (Some b) (Some a) (Some s) (Some t) last old r from to others costs comes =
+    let told : Some b ≡ Some comes.bytes = comes.mbox_told in
+    let lines_told : Some s ≡ Some comes.lines = comes.steps_told in
+    let same : b ≡ comes.bytes = cc in
+    let alike : s ≡ comes.lines = cc in
+    subst (λ (f : Feed). TurnCosts r old.keeper.state f from to) ((λ i. to_come files last old (same i) (Some (alike i))) ∙ sym comes.is)
+    (costs (subst (StandsInMbox files old) (sym same) comes.mbox_stands) (subst (StandsInSteps files old) (sym alike) comes.steps_stands))
 
 -- the same where readers and state are the same
-pub mails_same : (l : Option Bytes) (old new : Following) (others : Feed) → new.keeper.state ≡ old.keeper.state → new.mbox ≡ old.mbox → MailsToCome old l others → MailsToCome new l others
-mails_same l old new others state mbox (bytes, is, ahead) =
-    (bytes, is, ahead ∙ (λ i. to_come None (record old { keeper = record old.keeper { state = sym state i }; mbox = sym mbox i }) bytes None))
+pub mails_same : (files : Files) (l : Option Bytes) (old new : Following) (others : Feed) → new.keeper.state ≡ old.keeper.state → new.mbox ≡ old.mbox
+    → MailsToCome files old l others → MailsToCome files new l others
+mails_same files l old new others state mbox comes = record {
+  bytes = comes.bytes;
+  told = comes.told;
+  stands = mbox_stands_as files old new comes.bytes mbox comes.stands;
+  is = comes.is ∙ (λ i. to_come files None (record old { keeper = record old.keeper { state = sym state i }; mbox = sym mbox i }) comes.bytes None);
+}
 
-pub lines_same : (l j : Option Bytes) (last : Option ℕ) (old new : Following) (others : Feed) → new.keeper.state ≡ old.keeper.state → new.mbox ≡ old.mbox → new.lines ≡ old.lines
-    → LinesToCome last old l j others → LinesToCome last new l j others
-lines_same l j last old new others state mbox reader (bytes, lines, is, are, ahead) = (
-  bytes,
-  lines,
-  is,
-  are,
-  ahead ∙ (λ i. to_come last (record old { keeper = record old.keeper { state = sym state i }; mbox = sym mbox i; lines = sym reader i }) bytes (Some lines)),
-)
+pub lines_same : (files : Files) (l j : Option Bytes) (last : Option ℕ) (old new : Following) (others : Feed) → new.keeper.state ≡ old.keeper.state → new.mbox ≡ old.mbox → new.lines ≡ old.lines
+    → LinesToCome files last old l j others → LinesToCome files last new l j others
+lines_same files l j last old new others state mbox reader comes = record {
+  bytes = comes.bytes;
+  lines = comes.lines;
+  mbox_told = comes.mbox_told;
+  steps_told = comes.steps_told;
+  mbox_stands = mbox_stands_as files old new comes.bytes mbox comes.mbox_stands;
+  steps_stands = steps_stand_as files old new comes.lines reader comes.steps_stands;
+  is = comes.is ∙ (λ i. to_come files last (record old { keeper = record old.keeper { state = sym state i }; mbox = sym mbox i; lines = sym reader i }) comes.bytes (Some comes.lines));
+}
 
 -- ---- a round
 
@@ -112,6 +143,7 @@ module _ (start : Outset) (feed : Feed) (now : Counts) (outcomes : Places → Ty
   halts_at others k known few stored (fault.Read input) stops = tt
   halts_at others k known few stored (fault.Endless input) stops = tt
   halts_at others k known few stored (fault.Short input) stops = tt
+  halts_at others k known few stored (fault.OtherFiles input) stops = tt
   halts_at others k known few stored fault.Disk stops = tt
   halts_at others k known few stored (fault.Damaged place at) stops = tt
   halts_at others k known few stored (fault.OtherMe other) stops = tt
@@ -124,7 +156,7 @@ module _ (start : Outset) (feed : Feed) (now : Counts) (outcomes : Places → Ty
 
   -- of the turn after a commit that may have been due
   pub round_goes : (last : Option ℕ) (IsToCome : Feed → Type 0) (old new : Following) (others later : Feed) (r : Result Turned RunFault) (to : ℕ) → IsKnown seen (Way start feed others old.keeper now)
-      → IsToCome later → TurnGoes last r old others new later → TurnCosts r old.keeper.state others now.reads to → IfOk r (TurnAdds old.keeper new.keeper) → new.keeper.store ≡ old.keeper.store
+      → OnApplied r (IsToCome later) → TurnGoes last r old others new later → TurnCosts r old.keeper.state others now.reads to → IfOk r (TurnAdds old.keeper new.keeper) → new.keeper.store ≡ old.keeper.store
       → old.keeper.pending.count < 256 → WhereKnown seen (IsStored old.keeper.store outcomes) → RoundGoes last r start feed IsToCome new.keeper (counts to now.written) seen outcomes
   round_goes last IsToCome old new others later (Ok turned.Applied) to known comes go costs adds store few stored = record {
     others = later;

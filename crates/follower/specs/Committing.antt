@@ -11,8 +11,8 @@ use Rattle.follower.specs.declared.fault.RunFault.{RunFault}
 use Rattle.follower.specs.declared.fault.RunFault.TheVariants as fault
 use Rattle.follower.specs.declared.follower.Turned.{Turned}
 use Rattle.follower.specs.declared.follower.Turned.TheVariants as turned
-use Rattle.follower.specs.Feed.{Feed, ends, End, last_fed}
-use Rattle.follower.specs.Following.{Following, to_come}
+use Rattle.follower.specs.Feed.{Feed, Files, ends, End, last_fed}
+use Rattle.follower.specs.Following.{Following, StandsInMbox, StandsInSteps, to_come}
 use Rattle.follower.specs.Going.{AreMade, Leads, after_feds}
 use Rattle.follower.specs.Reached.{Stop, Full, BadStep, committed_count, reached}
 use Rattle.follower.specs.Spending.{Counts, RoseWithin, feds_cost, run_spends, spelled, spent_by, with_reads}
@@ -68,12 +68,20 @@ pub record OnWay (start : Outset) (feed : Feed) (IsToCome : Feed → Type 0) (k 
   pub known : IsKnown seen (Way start feed others k now)
 
 -- what is still to come of an mbox, and of a steps file, whose bytes are known
-abbrev pub MailsToCome : Following → Option Bytes → Feed → Type 0
-MailsToCome f mbox feed = (bytes : Bytes) × (mbox ≡ Some bytes) × (feed ≡ to_come None f bytes None)
+pub record MailsToCome (files : Files) (f : Following) (mbox : Option Bytes) (feed : Feed) : Type 0 where
+  pub bytes : Bytes
+  pub told : mbox ≡ Some bytes
+  pub stands : StandsInMbox files f bytes
+  pub is : feed ≡ to_come files None f bytes None
 
-abbrev pub LinesToCome : Option ℕ → Following → Option Bytes → Option Bytes → Feed → Type 0
-LinesToCome last f mbox steps feed =
-    (bytes lines : Bytes) × (mbox ≡ Some bytes) × (steps ≡ Some lines) × (feed ≡ to_come last f bytes (Some lines))
+pub record LinesToCome (files : Files) (last : Option ℕ) (f : Following) (mbox steps : Option Bytes) (feed : Feed) : Type 0 where
+  pub bytes : Bytes
+  pub lines : Bytes
+  pub mbox_told : mbox ≡ Some bytes
+  pub steps_told : steps ≡ Some lines
+  pub mbox_stands : StandsInMbox files f bytes
+  pub steps_stands : StandsInSteps files f lines
+  pub is : feed ≡ to_come files last f bytes (Some lines)
 
 -- the moment that comes last, where there is one
 abbrev pub LastToCome : Option ℕ → Keeping → Feed → Type 0

@@ -28,7 +28,7 @@ use Rattle.keeper.specs.Keeping.{Keeping}
 use Rattle.keeper.specs.declared.fault.KeepFault.{KeepFault}
 use Rattle.keeper.specs.declared.fault.KeepFault.TheVariants as of_keeper
 use Rattle.arrivals.specs.Arrivals.{arrival_of}
-use Rattle.follower.specs.Feed.{Feed, at_mail, coming, last_fed}
+use Rattle.follower.specs.Feed.{Feed, Files, at_mail, coming, last_fed}
 use Rattle.follower.specs.Going.{MakesFirst, StopsAt}
 use Rattle.follower.specs.Spending.{next_cost}
 
@@ -53,8 +53,25 @@ lines_ahead f left = ended_lines (f.lines.held ++ left)
 
 -- The changes that the files still give, where this is told of what the sources have left. The moment comes after the
 -- lines.
-abbrev pub to_come : Option ℕ → Following → Bytes → Option Bytes → Feed
-to_come last f mbox steps = coming last f.keeper.state (mails_ahead f mbox) (option_map (lines_ahead f) steps)
+abbrev pub to_come : Files → Option ℕ → Following → Bytes → Option Bytes → Feed
+to_come files last f mbox steps = coming files last f.keeper.state (mails_ahead f mbox) (option_map (lines_ahead f) steps)
+
+-- What the reader of the mbox holds, followed by what its source has left, is the mbox from its place on, and its trace
+-- stands for what comes before.
+pub record MboxReaderStands (file : Bytes) (r : mbox.Reading) (left : Bytes) : Type 0 where
+  pub at : mbox.IsAt file left r
+  pub traced : mbox.IsTraced file r
+
+abbrev pub StandsInMbox : Files → Following → Bytes → Type 0
+StandsInMbox files f left = MboxReaderStands files.mbox f.mbox left
+
+-- the same of the steps file
+pub record StepsReaderStands (file : Bytes) (r : steps.Reading) (left : Bytes) : Type 0 where
+  pub at : steps.IsAt file left r
+  pub traced : steps.IsTraced file r
+
+abbrev pub StandsInSteps : Files → Following → Bytes → Type 0
+StandsInSteps files f left = StepsReaderStands files.steps f.lines left
 
 -- ---- why a file is not followed
 
@@ -85,12 +102,12 @@ ArrivesNext old mails change new others = ⊥
 
 -- The change of a step, with the position after it, and the mails that are left then. The position after its line is
 -- given, and the uid of the next arrival.
-abbrev pub Makes : Step → ℕ → Position → List Mail → Change × Position → List Mail → Type 0
-Makes step.Next uid p [] made others = ⊥
-Makes step.Next uid p (mail ∷ mails) made others = (made ≡ (arrival_of uid mail, at_mail p mail)) × (others ≡ mails)
-Makes (step.Expunge n) uid p mails made others = (made ≡ (Expunge n, p)) × (others ≡ mails)
-Makes (step.Seen n) uid p mails made others = (made ≡ (Seen n, p)) × (others ≡ mails)
-Makes (step.At moment) uid p mails made others = (made ≡ (At moment, p)) × (others ≡ mails)
+abbrev pub Makes : Files → Step → ℕ → Position → List Mail → Change × Position → List Mail → Type 0
+Makes files step.Next uid p [] made others = ⊥
+Makes files step.Next uid p (mail ∷ mails) made others = (made ≡ (arrival_of uid mail, at_mail files p mail)) × (others ≡ mails)
+Makes files (step.Expunge n) uid p mails made others = (made ≡ (Expunge n, p)) × (others ≡ mails)
+Makes files (step.Seen n) uid p mails made others = (made ≡ (Seen n, p)) × (others ≡ mails)
+Makes files (step.At moment) uid p mails made others = (made ≡ (At moment, p)) × (others ≡ mails)
 
 -- the moment of a step is one
 abbrev pub MakesMoment : Step → Type 0
@@ -116,6 +133,11 @@ abbrev pub Raises : Keeping → Keeping → Turned → Type 0
 Raises old new turned.Applied = (old.state.position.count < new.state.position.count) × (new.state.position.count ≤ max_changes)
 Raises old new turned.End = ⊤
 
+-- where a turn made a change, this holds
+abbrev pub OnApplied : Result Turned RunFault → Type 0 → Type 0
+OnApplied (Ok turned.Applied) P = P
+OnApplied _ P = ⊤
+
 -- A turn makes the next change, so the others are to come after it; at the end there is none.
 abbrev pub TurnGoes : Option ℕ → Result Turned RunFault → Following → Feed → Following → Feed → Type 0
 TurnGoes last (Ok turned.Applied) old before new after = MakesFirst old.keeper before new.keeper after
@@ -133,6 +155,27 @@ ReadsForOne (Err why) m n old new = (change : Change) × (new ≤ old + change_c
 abbrev pub TurnCosts : Result Turned RunFault → State → Feed → ℕ → ℕ → Type 0
 TurnCosts (Ok turned.End) s before old new = new ≡ old
 TurnCosts _ s before old new = new ≤ old + next_cost s before.changes
+
+-- ---- a turn where the readers stand in the files, and where they stand after it
+
+abbrev pub MailTurn : Files → Result Turned RunFault → Following → Bytes → Following → Bytes → Type 0
+MailTurn files result old before new after = StandsInMbox files old before
+    → TurnGoes None result old (to_come files None old before None) new (to_come files None new after None)
+    × OnApplied result (StandsInMbox files new after)
+
+abbrev pub MailCosts : Files → Result Turned RunFault → Following → Bytes → ℕ → ℕ → Type 0
+MailCosts files result old before from to =
+    StandsInMbox files old before → TurnCosts result old.keeper.state (to_come files None old before None) from to
+
+abbrev pub LineTurn : Files → Option ℕ → Result Turned RunFault → Following → Bytes → Bytes → Following → Bytes → Bytes → Type 0
+LineTurn files last result old mails_before before new mails_after after =
+    StandsInMbox files old mails_before → StandsInSteps files old before
+    → TurnGoes last result old (to_come files last old mails_before (Some before)) new (to_come files last new mails_after (Some after))
+    × OnApplied result (StandsInMbox files new mails_after × StandsInSteps files new after)
+
+abbrev pub LineCosts : Files → Option ℕ → Result Turned RunFault → Following → Bytes → Bytes → ℕ → ℕ → Type 0
+LineCosts files last result old mails_before before from to = StandsInMbox files old mails_before → StandsInSteps files old before
+    → TurnCosts result old.keeper.state (to_come files last old mails_before (Some before)) from to
 
 -- Why a call is refused, beside what the files and the kept state say: a fault of a device that rose, or the budget of an
 -- input that was taken.

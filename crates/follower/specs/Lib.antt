@@ -6,4 +6,5 @@ pub mod Following
 pub mod Spending
 pub mod Committing
 pub mod Opening
+pub mod Inputs
 pub mod Resuming

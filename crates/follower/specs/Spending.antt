@@ -1,6 +1,5 @@
 -- What the changes and the commits of a run read and write, at most.
 use Rattle.std.specs.Prelude.{◌≤◌, ℕ, zero, suc, ◌+◌, ◌*◌, ◌/◌, List, length, map, take, drop, flat_map}
-use Rattle.mailbox_model.specs.Mailbox.{after}
 use Rattle.state_image.specs.Changes.{change_spelled}
 use Rattle.state_store.specs.Commits.{Fill, commit_reads, commit_writes, fill_with}
 use Rattle.state_store.specs.States.{State}

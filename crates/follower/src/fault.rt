@@ -46,6 +46,9 @@ pub enum RunFault {
     /// The input ends before the place up to which it was followed.
     #[error("short {0}")]
     Short(Input),
+    /// The input is not the one that was followed: its first bytes are others.
+    #[error("other {0}")]
+    OtherFiles(Input),
     /// The line of the steps file with this number, from 1, is no step, or takes the next mail where there is none.
     #[error("steps line {0}")]
     Steps(u64),

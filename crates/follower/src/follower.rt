@@ -1,7 +1,9 @@
 //! The follower of a mailbox: it makes the changes of its files one after the other, and commits them.
-ghost use Rattle.std.specs.Prelude.{◌≡◌, ◌≤◌, ◌+◌, ◌^◌, ◌⊎◌, ◌<◌, ◌≢◌, ℕ, List, [], length, Option, Some, None, Ok, false, true, IfOk, IfErr, IfSome, IsErrOf, OnOk, OnErr, is_err};
+ghost use Rattle.std.specs.Prelude.{◌≡◌, ◌≤◌, ◌+◌, ◌^◌, ◌⊎◌, ◌<◌, ◌≢◌, ℕ, List, [], length, is_some, Option, Some, None, Ok, false, true, IfOk, IfErr, IfSome, IsErrOf, OnOk, OnErr, is_err};
+ghost use Rattle.kit.specs.Chains.{no_cut};
 ghost use Rattle.kit.specs.Moments.{last_moment};
 ghost use Rattle.indexes.specs.Costs.{load};
+ghost use Rattle.mailbox_model.specs.Lists.{Bytes};
 ghost use Rattle.mailbox_model.specs.Mailbox.{IsValidChange};
 ghost use Rattle.mboxrd.specs.Reading as mbox_reading;
 ghost use Rattle.outside.specs.Causes.{Rose};
@@ -18,8 +20,9 @@ ghost use Rattle.state_store.specs.States.{IsWithin};
 ghost use Rattle.keeper.specs.Keeping.{IsKept, is_refused};
 ghost use Rattle.keeper.specs.Opening.{AllFindSame, load_of};
 ghost use Rattle.tail_journal.specs.Pending.{none_pending, with_change};
-ghost use Rattle.follower.specs.Feed.{after_fed, moment_fed};
-ghost use Rattle.follower.specs.Following.{Adds, ArrivesNext, IsCause, IsKeepFault, IsTurnFault, LacksMail, Makes, MakesMoment, ReadsForOne, TurnAdds, TurnCosts, TurnGoes, to_come, mails_ahead};
+ghost use Rattle.follower.specs.Feed.{Files, after_fed, moment_fed};
+ghost use Rattle.follower.specs.Inputs.{GivesOther, IsPassedOver, is_same, other_of};
+ghost use Rattle.follower.specs.Following.{Adds, ArrivesNext, IsCause, IsKeepFault, IsTurnFault, LacksMail, LineCosts, LineTurn, MailCosts, MailTurn, Makes, MakesMoment, ReadsForOne, StandsInMbox, TurnAdds, mails_ahead};
 ghost use Rattle.follower.specs.Opening.{OnOtherMe, Opens, StartsLines, StartsMbox};
 ghost use Rattle.follower.specs.declared.fault.Input.TheVariants.{Mbox};
 ghost use Rattle.follower.specs.declared.fault.RunFault.TheVariants as fault;
@@ -51,6 +54,13 @@ const STEPS_CHUNK: usize = 4_096;
 
 /// So many bytes of the steps file may be taken: 4 GiB.
 const STEPS_BUDGET: u64 = 4_294_967_296;
+
+/// Whether the trace that was kept is this one, or none was kept, which 32 zero bytes stand for.
+fn is_same(kept: &[u8; 32], now: &[u8; 32]) -> bool
+    ensures { result ≡ is_same kept.now now.now }
+{
+    kept == &[0; 32] || kept == now
+}
 
 /// What a turn did.
 #[derive(Clone, Copy, Debug, PartialEq, Eq)]
@@ -107,8 +117,8 @@ impl Follower {
         ensures pending { IfOk result (λ f. f.keeper.pending ≡ none_pending) }
         ensures kept { IfOk result (λ f. WhereKnown (H.seen shelf.new) (IsKept f.keeper)) }
         ensures stored { IfOk result (λ f. WhereKnown (H.seen shelf.new) (IsStored f.keeper.store (H.may_leave shelf.new))) }
-        ensures mbox { IfOk result (λ f. (f.mbox.held ≡ []) × (f.mbox.taken ≡ 0) × (f.mbox.budget ≡ 2 ^ 36) × (f.mbox.at_separator ≡ false)) }
-        ensures lines { IfOk result (λ f. (f.lines.held ≡ []) × (f.lines.taken ≡ 0) × (f.lines.budget ≡ 2 ^ 32)) }
+        ensures mbox { IfOk result (λ f. (f.mbox.held ≡ []) × (f.mbox.taken ≡ 0) × (f.mbox.budget ≡ 2 ^ 36) × (f.mbox.at_separator ≡ false) × (f.mbox.place ≡ 0) × (f.mbox.trace ≡ no_cut)) }
+        ensures lines { IfOk result (λ f. (f.lines.held ≡ []) × (f.lines.taken ≡ 0) × (f.lines.budget ≡ 2 ^ 32) × (f.lines.place ≡ 0) × (f.lines.trace ≡ no_cut)) }
         ensures same { OnOk result (KnownThen (H.seen shelf.old) (H.seen shelf.new) SameFound) }
         ensures any_moment { WhereKnown (H.seen shelf.old) (λ _. LeavesOnly H.moment H.left_since shelf.old shelf.new
             (Reached (H.may_leave shelf.old) SameFound)) }
@@ -167,7 +177,7 @@ impl Follower {
     /// - `starts`: where the mbox tells its bytes, the mails after that place come next.
     pub fn start_mbox<M: Source>(&mut self, mbox: &mut M) -> Result<(), RunFault>
         requires usable { self.old.failed ≡ false }
-        requires first { (self.old.mbox.held ≡ []) × (self.old.mbox.taken ≡ 0) × (self.old.mbox.at_separator ≡ false) }
+        requires first { (self.old.mbox.held ≡ []) × (self.old.mbox.taken ≡ 0) × (self.old.mbox.at_separator ≡ false) × (self.old.mbox.place ≡ 0) × (self.old.mbox.trace ≡ no_cut) }
         ensures starts { IfKnown (M.left mbox.old) (M.left mbox.new) (λ before after. StartsMbox result self.old before self.new after) }
         ensures keeper { self.new.keeper ≡ self.old.keeper }
         ensures lines { self.new.lines ≡ self.old.lines }
@@ -191,7 +201,7 @@ impl Follower {
     /// - `starts`: where the steps file tells its bytes, the lines after that place come next.
     pub fn start_lines<S: Source>(&mut self, steps_file: &mut S) -> Result<(), RunFault>
         requires usable { self.old.failed ≡ false }
-        requires first { (self.old.lines.held ≡ []) × (self.old.lines.taken ≡ 0) }
+        requires first { (self.old.lines.held ≡ []) × (self.old.lines.taken ≡ 0) × (self.old.lines.place ≡ 0) × (self.old.lines.trace ≡ no_cut) }
         ensures starts { IfKnown (S.left steps_file.old) (S.left steps_file.new) (λ before after. StartsLines result self.old before self.new after) }
         ensures place { OnOk result (self.new.lines.place ≡ self.old.keeper.state.position.steps) }
         ensures keeper { self.new.keeper ≡ self.old.keeper }
@@ -208,6 +218,35 @@ impl Follower {
         }
         self.failed = false;
         Ok(())
+    }
+
+    /// The input that is not the one that was followed, if one is: the mbox first.
+    fn other_input(&self, steps_given: bool) -> Option<Input>
+        ensures { (mbox : Bytes) (steps : Option Bytes) → steps_given ≡ is_some steps → IsPassedOver mbox steps self.now
+            → result ≡ other_of self.now.keeper.state.position mbox steps }
+    {
+        let position = self.keeper.position();
+        if !is_same(&position.mbox_trace, &self.mbox.trace()) {
+            return Some(Input::Mbox);
+        }
+        if steps_given && !is_same(&position.steps_trace, &self.lines.trace()) {
+            return Some(Input::Steps);
+        }
+        None
+    }
+
+    /// Whether the inputs are those that were followed, which were passed over up to where they were: the mbox, and with it
+    /// the steps file where one is given. `OtherFiles` comes exactly where a trace that was kept of one is not that of the
+    /// bytes that were passed over, of the mbox first. Takes no memory.
+    pub fn check_inputs(&self, steps_given: bool) -> Result<(), RunFault>
+        ensures gives { (mbox : Bytes) (steps : Option Bytes) → steps_given ≡ is_some steps → IsPassedOver mbox steps self.now
+            → GivesOther result (other_of self.now.keeper.state.position mbox steps) }
+        ensures possible { IfErr result (λ why. (input : Input) × (why ≡ fault.OtherFiles input)) }
+    {
+        match self.other_input(steps_given) {
+            Some(input) => Err(RunFault::OtherFiles(input)),
+            None => Ok(()),
+        }
     }
 
     /// The clock comes to a moment, in seconds since 1970-01-01 00:00:00 UTC. `Full` comes exactly where 2^62 changes were
@@ -241,12 +280,15 @@ impl Follower {
     /// The arrival of the next mail of the mbox, if there is one.
     ///
     /// - `next`: where the source tells its bytes, it is the one that they give.
+    /// - `stands`: where the reader stood in the mbox, it does so after a mail.
     /// - `rest`: nothing changes but the reader of the mbox.
     fn next_arrival<M: Source>(&mut self, mbox: &mut M) -> Result<Option<Change>, RunFault>
         requires usable { self.old.mbox.refused ≡ false }
         requires failed { self.old.failed ≡ true }
         ensures next { IfOk result (λ change. IfKnown (M.left mbox.old) (M.left mbox.new) (λ before after.
             ArrivesNext self.old (mails_ahead self.old before) change self.new (mails_ahead self.new after))) }
+        ensures stands { IfOk result (λ change. is_some change ≡ true → IfKnown (M.left mbox.old) (M.left mbox.new) (λ before after.
+            (files : Files) → StandsInMbox files self.old before → StandsInMbox files self.new after)) }
         ensures valid { IfOk result (λ change. IfSome change IsValidChange) }
         ensures usable { OnOk result (self.new.mbox.refused ≡ false) }
         ensures later { M.faults mbox.old ≤ M.faults mbox.new }
@@ -273,8 +315,8 @@ impl Follower {
     ) -> Result<Turned, RunFault>
         requires usable { self.old.failed ≡ false }
         requires few { self.old.keeper.pending.count < 256 }
-        ensures goes { IfKnown (M.left mbox.old) (M.left mbox.new) (λ before after.
-            TurnGoes None result self.old (to_come None self.old before None) self.new (to_come None self.new after None)) }
+        ensures goes { (files : Files) → IfKnown (M.left mbox.old) (M.left mbox.new) (λ before after.
+            MailTurn files result self.old before self.new after) }
         ensures adds { IfOk result (TurnAdds self.old.keeper self.new.keeper) }
         ensures kept { OnOk result ((places : Places) → IsKept self.old.keeper places → IsKept self.new.keeper places) }
         ensures store { self.new.keeper.store ≡ self.old.keeper.store }
@@ -286,8 +328,8 @@ impl Follower {
         ensures took { (bytes : List ℕ) × mbox_reading.Takes (M.left mbox.old) (M.left mbox.new) self.old.mbox self.new.mbox bytes }
         ensures lines { self.new.lines ≡ self.old.lines }
         ensures reads { ReadsForOne result self.old.keeper.state.mailbox self.new.keeper.state.mailbox steps.old steps.new }
-        ensures cost { IfKnown (M.left mbox.old) (M.left mbox.new) (λ before _.
-            TurnCosts result self.old.keeper.state (to_come None self.old before None) steps.old steps.new) }
+        ensures cost { (files : Files) → IfKnown (M.left mbox.old) (M.left mbox.new) (λ before _.
+            MailCosts files result self.old before steps.old steps.new) }
     {
         self.failed = true;
         let position = self.keeper.position();
@@ -295,7 +337,7 @@ impl Follower {
             self.failed = false;
             return Ok(Turned::End);
         };
-        let position = at_mail(counted(position), self.mbox.place());
+        let position = at_mail(counted(position), self.mbox.place(), self.mbox.trace());
         self.keeper.apply(change, position, steps)?;
         self.failed = false;
         Ok(Turned::Applied)
@@ -314,10 +356,12 @@ impl Follower {
         requires usable { self.old.mbox.refused ≡ false }
         requires failed { self.old.failed ≡ true }
         requires moment { MakesMoment step }
-        ensures makes { IfOk result (λ made. IfKnown (M.left mbox.old) (M.left mbox.new) (λ before after.
-            Makes step self.old.keeper.state.mailbox.next_uid position (mails_ahead self.old before) made (mails_ahead self.new after))) }
+        ensures makes { IfOk result (λ made. (files : Files) → IfKnown (M.left mbox.old) (M.left mbox.new) (λ before after.
+            StandsInMbox files self.old before
+            → Makes files step self.old.keeper.state.mailbox.next_uid position (mails_ahead self.old before) made (mails_ahead self.new after)
+            × StandsInMbox files self.new after)) }
         ensures valid { IfOk result (λ made. IsValidChange made.0) }
-        ensures count { IfOk result (λ made. made.1 ≡ record position { mbox = made.1.mbox }) }
+        ensures count { IfOk result (λ made. made.1 ≡ record position { mbox = made.1.mbox; mbox_trace = made.1.mbox_trace }) }
         ensures usable { OnOk result (self.new.mbox.refused ≡ false) }
         ensures bare { IfErr result (λ why. IfKnown (M.left mbox.old) (M.left mbox.new) (λ before after.
             LacksMail step position.lines (mails_ahead self.old before) why)) }
@@ -333,7 +377,8 @@ impl Follower {
                 let Some(change) = self.next_arrival(mbox)? else {
                     return Err(RunFault::Steps(position.lines));
                 };
-                return Ok((change, at_mail(position, self.mbox.place())));
+                let position = at_mail(position, self.mbox.place(), self.mbox.trace());
+                return Ok((change, position));
             }
             Step::Expunge(uid) => Change::Expunge(uid),
             Step::Seen(uid) => Change::Seen(uid),
@@ -357,10 +402,9 @@ impl Follower {
         requires usable { self.old.failed ≡ false }
         requires few { self.old.keeper.pending.count < 256 }
         requires place { self.old.lines.place ≡ self.old.keeper.state.position.steps }
-        ensures goes { (last : Option ℕ) → IfKnown (M.left mbox.old) (M.left mbox.new) (λ mbox_before mbox_after.
+        ensures goes { (files : Files) (last : Option ℕ) → IfKnown (M.left mbox.old) (M.left mbox.new) (λ mbox_before mbox_after.
             IfKnown (S.left steps_file.old) (S.left steps_file.new) (λ steps_before steps_after.
-            TurnGoes last result self.old (to_come last self.old mbox_before (Some steps_before)) self.new
-            (to_come last self.new mbox_after (Some steps_after)))) }
+            LineTurn files last result self.old mbox_before steps_before self.new mbox_after steps_after)) }
         ensures adds { IfOk result (TurnAdds self.old.keeper self.new.keeper) }
         ensures kept { OnOk result ((places : Places) → IsKept self.old.keeper places → IsKept self.new.keeper places) }
         ensures store { self.new.keeper.store ≡ self.old.keeper.store }
@@ -375,23 +419,23 @@ impl Follower {
         ensures mbox_took { (bytes : List ℕ) × mbox_reading.Takes (M.left mbox.old) (M.left mbox.new) self.old.mbox self.new.mbox bytes }
         ensures steps_took { (bytes : List ℕ) × steps_reading.Takes (S.left steps_file.old) (S.left steps_file.new) self.old.lines self.new.lines bytes }
         ensures reads { ReadsForOne result self.old.keeper.state.mailbox self.new.keeper.state.mailbox steps.old steps.new }
-        ensures cost { (last : Option ℕ) → IfKnown (M.left mbox.old) (M.left mbox.new) (λ mbox_before _.
+        ensures cost { (files : Files) (last : Option ℕ) → IfKnown (M.left mbox.old) (M.left mbox.new) (λ mbox_before _.
             IfKnown (S.left steps_file.old) (S.left steps_file.new) (λ steps_before _.
-            TurnCosts result self.old.keeper.state (to_come last self.old mbox_before (Some steps_before)) steps.old steps.new)) }
+            LineCosts files last result self.old mbox_before steps_before steps.old steps.new)) }
     {
         self.failed = true;
         let position = self.keeper.position();
         let step = match self.lines.next(steps_file)? {
             Taken::Step(step) => step,
             Taken::NoStep => return Err(RunFault::Steps(
-                at_line(position, self.lines.place()).lines,
+                at_line(position, self.lines.place(), self.lines.trace()).lines,
             )),
             Taken::End => {
                 self.failed = false;
                 return Ok(Turned::End);
             }
         };
-        let position = at_line(counted(position), self.lines.place());
+        let position = at_line(counted(position), self.lines.place(), self.lines.trace());
         let (change, position) = self.change_of(step, position, mbox)?;
         self.keeper.apply(change, position, steps)?;
         self.failed = false;

@@ -15,24 +15,26 @@ pub fn counted(position: Position) -> Position
     }
 }
 
-/// After a mail that ends at this place.
-pub fn at_mail(position: Position, place: u64) -> Position
-    ensures { result ≡ record position { mbox = place } }
+/// After a mail that ends at this place, where the mbox has this trace.
+pub fn at_mail(position: Position, place: u64, trace: [u8; 32]) -> Position
+    ensures { result ≡ record position { mbox = place; mbox_trace = trace } }
 {
     Position {
         mbox: place,
+        mbox_trace: trace,
         ..position
     }
 }
 
-/// After a line that ends at this place.
-pub fn at_line(position: Position, place: u64) -> Position
+/// After a line that ends at this place, where the steps file has this trace.
+pub fn at_line(position: Position, place: u64, trace: [u8; 32]) -> Position
     requires { position.lines < place }
-    ensures { result ≡ record position { steps = place; lines = position.lines + 1 } }
+    ensures { result ≡ record position { steps = place; lines = position.lines + 1; steps_trace = trace } }
 {
     Position {
         steps: place,
         lines: position.lines + 1,
+        steps_trace: trace,
         ..position
     }
 }

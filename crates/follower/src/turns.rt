@@ -8,7 +8,7 @@ ghost use Rattle.state_store.specs.Stored.{IsStored};
 ghost use Rattle.steps_file.specs.Reading as steps_reading;
 ghost use Rattle.keeper.specs.Keeping.{IsKept};
 ghost use Rattle.follower.specs.Committing.{AllGo, CommitGoes, EndGoes, LastGoes, LastToCome, LinesToCome, MailsToCome, NothingToCome, OnWay, Outset, Prefix, RoundGoes, Way};
-ghost use Rattle.follower.specs.Feed.{Feed};
+ghost use Rattle.follower.specs.Feed.{Feed, Files};
 ghost use Rattle.follower.specs.Following.{IsCause, IsFollowFault, Raises};
 ghost use Rattle.follower.specs.Spending.{counts};
 ghost use Rattle.follower.specs.declared.fault.RunFault.TheVariants as fault;
@@ -68,11 +68,11 @@ fn round_of_mail<M: Source, H: Shelf, L: Ledger>(
     requires few { follower.old.keeper.pending.count ≤ 256 }
     requires kept { WhereKnown (H.seen shelf.old) (IsKept follower.old.keeper) }
     requires stored { WhereKnown (H.seen shelf.old) (IsStored follower.old.keeper.store (H.may_leave shelf.old)) }
-    ensures goes { (start : Outset) (feed : Feed)
-        → OnWay start feed (MailsToCome follower.old (M.left mbox.old)) follower.old.keeper
+    ensures goes { (files : Files) (start : Outset) (feed : Feed)
+        → OnWay start feed (MailsToCome files follower.old (M.left mbox.old)) follower.old.keeper
         (counts steps.old (H.written shelf.old)) (H.seen shelf.old)
         → LeavesOnly H.moment H.left_since shelf.old shelf.new (Prefix start.state feed)
-        × RoundGoes None result start feed (MailsToCome follower.new (M.left mbox.new)) follower.new.keeper
+        × RoundGoes None result start feed (MailsToCome files follower.new (M.left mbox.new)) follower.new.keeper
         (counts steps.new (H.written shelf.new)) (H.seen shelf.new) (H.may_leave shelf.new) }
     ensures usable { OnOk result (follower.new.failed ≡ false) }
     ensures few { OnOk result (follower.new.keeper.pending.count ≤ 256) }
@@ -105,8 +105,8 @@ pub fn follow_mails<M: Source, H: Shelf, L: Ledger>(
     requires few { follower.old.keeper.pending.count ≤ 256 }
     requires kept { WhereKnown (H.seen shelf.old) (IsKept follower.old.keeper) }
     requires stored { WhereKnown (H.seen shelf.old) (IsStored follower.old.keeper.store (H.may_leave shelf.old)) }
-    ensures goes { (start : Outset) (feed : Feed)
-        → OnWay start feed (MailsToCome follower.old (M.left mbox.old)) follower.old.keeper
+    ensures goes { (files : Files) (start : Outset) (feed : Feed)
+        → OnWay start feed (MailsToCome files follower.old (M.left mbox.old)) follower.old.keeper
         (counts steps.old (H.written shelf.old)) (H.seen shelf.old)
         → LeavesOnly H.moment H.left_since shelf.old shelf.new (Prefix start.state feed)
         × AllGo None result start feed follower.new.keeper
@@ -146,11 +146,11 @@ fn round_of_line<M: Source, S: Source, H: Shelf, L: Ledger>(
     requires place { follower.old.lines.place ≡ follower.old.keeper.state.position.steps }
     requires kept { WhereKnown (H.seen shelf.old) (IsKept follower.old.keeper) }
     requires stored { WhereKnown (H.seen shelf.old) (IsStored follower.old.keeper.store (H.may_leave shelf.old)) }
-    ensures goes { (last : Option ℕ) (start : Outset) (feed : Feed)
-        → OnWay start feed (LinesToCome last follower.old (M.left mbox.old) (S.left steps_file.old)) follower.old.keeper
+    ensures goes { (files : Files) (last : Option ℕ) (start : Outset) (feed : Feed)
+        → OnWay start feed (LinesToCome files last follower.old (M.left mbox.old) (S.left steps_file.old)) follower.old.keeper
         (counts steps.old (H.written shelf.old)) (H.seen shelf.old)
         → LeavesOnly H.moment H.left_since shelf.old shelf.new (Prefix start.state feed)
-        × RoundGoes last result start feed (LinesToCome last follower.new (M.left mbox.new) (S.left steps_file.new)) follower.new.keeper
+        × RoundGoes last result start feed (LinesToCome files last follower.new (M.left mbox.new) (S.left steps_file.new)) follower.new.keeper
         (counts steps.new (H.written shelf.new)) (H.seen shelf.new) (H.may_leave shelf.new) }
     ensures usable { OnOk result (follower.new.failed ≡ false) }
     ensures few { OnOk result (follower.new.keeper.pending.count ≤ 256) }
@@ -187,8 +187,8 @@ pub fn follow_lines<M: Source, S: Source, H: Shelf, L: Ledger>(
     requires place { follower.old.lines.place ≡ follower.old.keeper.state.position.steps }
     requires kept { WhereKnown (H.seen shelf.old) (IsKept follower.old.keeper) }
     requires stored { WhereKnown (H.seen shelf.old) (IsStored follower.old.keeper.store (H.may_leave shelf.old)) }
-    ensures goes { (last : Option ℕ) (start : Outset) (feed : Feed)
-        → OnWay start feed (LinesToCome last follower.old (M.left mbox.old) (S.left steps_file.old)) follower.old.keeper
+    ensures goes { (files : Files) (last : Option ℕ) (start : Outset) (feed : Feed)
+        → OnWay start feed (LinesToCome files last follower.old (M.left mbox.old) (S.left steps_file.old)) follower.old.keeper
         (counts steps.old (H.written shelf.old)) (H.seen shelf.old)
         → LeavesOnly H.moment H.left_since shelf.old shelf.new (Prefix start.state feed)
         × AllGo last result start feed follower.new.keeper

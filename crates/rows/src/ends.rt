@@ -21,6 +21,7 @@ fn status_words(status: Status) -> &'static [u8] {
         Status::NoChat => b"no chat",
         Status::Damaged => b"damaged",
         Status::Short => b"short",
+        Status::OtherFiles => b"other input",
         Status::OtherMe => b"other address",
         Status::Endless => b"endless",
         Status::NoApp => b"no app",

@@ -1,15 +1,17 @@
-use Rattle.std.proofs.Common.{◌≡◌, ℕ, Some, refl, ap, sym, subst}
+use Rattle.std.proofs.Common.{◌≡◌, ◌∙◌, ℕ, None, Some, refl, ap, sym, subst}
 use Rattle.std.proofs.lemmas.Result.{err_from_is_err_and}
 use Rattle.mboxrd.specs.Reading as mbox
 use Rattle.outside.specs.Moments.{LeavesOnly}
 use Rattle.state_store.specs.Commits.{fill_of}
-use Rattle.follower.specs.Committing.{Ends, Prefix, Stops, outset}
+use Rattle.state_store.specs.Stands.{stands}
+use Rattle.state_store.proofs.Appending.{is_settled}
+use Rattle.follower.specs.Committing.{AllStand, Ends, Prefix, Stops, outset}
 use Rattle.follower.specs.Spending.{counts}
-use Rattle.follower.specs.Feed.{Feed, mails_feed, mails_left}
+use Rattle.follower.specs.Feed.{Feed, files_of, mails_feed, mails_left}
 use Rattle.follow.specs.Outcome.{TakesAll, changes, given_of, mbox_budget, mbox_found}
 use Rattle.follow.specs.Statuses.{refusal_of}
-use Rattle.follow.proofs.Followed.{begin_leaves, begin_stops, fits_alone, follow_leaves, following_spends, goes_to_end, halts_stop, opening_spends, own_state}
-use Rattle.follow.proofs.Replied.{cause_later, caused, some_left, took_all, took_more, took_within}
+use Rattle.follow.proofs.Followed.{begin_leaves, begin_stops, fits_same, follow_leaves, following_spends, goes_to_end, halts_stop, opening_spends, other_stops, own_state, passed_alone, traced_alone}
+use Rattle.follow.proofs.Replied.{cause_later, caused, other_cause, some_left, took_all, took_more, took_within}
 use Rattle.follow.proofs.following.follow_mbox.Goals as goal
 
 pub returns-in_err-follower-clause-goes : goal.returns-in_err-follower-clause-goes
@@ -21,6 +23,28 @@ returns-in_err-follower-clause-goes g c = λ bytes places next known seen gives.
     rw (p.1, p.2) (
       begin_leaves H.moment H.left_since (H.may_leave c.args.shelf.now) given c.args.shelf.now c.begin.new.shelf began.0,
       begin_stops given (H.may_leave c.begin.new.shelf) c.in_err-follower.field-0.0 began.1,
+    )
+
+-- the mbox is another one
+pub returns-in_err-check_inputs-clause-goes : goal.returns-in_err-check_inputs-clause-goes
+returns-in_err-check_inputs-clause-goes g c = λ bytes places next known seen gives.
+    let H = g.H.Shelf in
+    let p = err_from_is_err_and c.from_residual-in_err-check_inputs.result c.from_residual-in_err-check_inputs.ensures.1 in
+    let me = c.args.me.now in
+    let given = given_of me c.args.at (mbox_found bytes places next) in
+    let f = c.in_ok-follower.follower in
+    let s = f.keeper.state in
+    let shelf = c.begin.new.shelf in
+    let began = c.in_ok-follower.ensures.goes bytes places known seen in
+    let b = began.1 in
+    let passed = passed_alone me bytes (stands me places) f (g.M.Source.left c.begin.new.mbox) (H.seen shelf) b in
+    let state = own_state me s (H.seen shelf) b.own b.known in
+    let each : AllStand s.mailbox.me s (H.may_leave shelf) =
+    λ x left. ap (stands s.mailbox.me) (is_settled f.keeper.store (H.may_leave shelf) state.places (c.in_ok-follower.ensures.stored state.places state.is) x left) ∙ state.holds in
+    rw (p.1, p.2) (
+      begin_leaves H.moment H.left_since (H.may_leave c.args.shelf.now) given c.args.shelf.now shelf began.0,
+      other_stops given s b.stand_is (H.may_leave shelf) c.in_err-check_inputs.field-0.0 c.in_err-check_inputs.ensures.possible b.own (traced_alone given s b.own b.within refl)
+          (c.in_err-check_inputs.ensures.gives bytes None refl passed) each,
     )
 
 -- what the follower makes of the mbox is what the run finds
@@ -38,14 +62,17 @@ returns-in_err-follow_mails_to_end-clause-goes g c = λ bytes places next known 
     let new = c.follow_mails_to_end.new.shelf in
     let began = c.in_ok-follower.ensures.goes bytes places known seen in
     let b = began.1 in
-    let went = c.in_err-follow_mails_to_end.ensures.goes b.rest (mails_left s.position bytes) b.left_is (sym b.ahead) (own_state me s (H.seen mid) b.own b.known) in
-    let feed : mails_feed s (mails_left s.position bytes) (Some c.moment_or_now-moment.result) ≡ changes given s =
-    ap (λ (n : ℕ). mails_feed s (mails_left s.position bytes) (Some n)) (c.moment_or_now-moment.ensures.value next gives) in
+    let files = files_of bytes None in
+    let passed = passed_alone me bytes (stands me places) f (g.M.Source.left c.begin.new.mbox) (H.seen mid) b in
+    let fits = fits_same given s (traced_alone given s b.own b.within refl) (c.in_ok-check_inputs.ensures.gives bytes None refl passed) in
+    let went = c.in_err-follow_mails_to_end.ensures.goes files b.rest (mails_left s.position bytes) b.left_is (b.mbox_stands files refl) (sym b.ahead) (own_state me s (H.seen mid) b.own b.known) in
+    let feed : mails_feed files s (mails_left s.position bytes) (Some c.moment_or_now-moment.result) ≡ changes given s =
+    ap (λ (n : ℕ). mails_feed files s (mails_left s.position bytes) (Some n)) (c.moment_or_now-moment.ensures.value next gives) in
     let leaves = subst (λ (x : Feed). LeavesOnly H.moment H.left_since mid new (Prefix s x)) feed went.0 in
     let ends = subst (λ (x : Feed). Stops why (outset f.keeper (counts c.begin.new.steps (H.written mid))) x (counts c.follow_mails_to_end.new.steps (H.written new)) (H.may_leave new)) feed went.1 in
     rw (p.1, p.2) (
       follow_leaves H.moment H.left_since (H.may_leave old) given old mid new s b.stand_is began.0 leaves,
-      halts_stop given s b.stand_is (H.may_leave new) b.own (fits_alone given s b.own b.within refl) why c.in_err-follow_mails_to_end.ensures.possible ends.halts,
+      halts_stop given s b.stand_is (H.may_leave new) b.own fits why c.in_err-follow_mails_to_end.ensures.possible ends.halts,
     )
 
 pub returns-clause-goes : goal.returns-clause-goes
@@ -60,15 +87,18 @@ returns-clause-goes g c = λ bytes places next known seen gives.
     let new = c.follow_mails_to_end.new.shelf in
     let began = c.in_ok-follower.ensures.goes bytes places known seen in
     let b = began.1 in
-    let went = c.in_ok-follow_mails_to_end.ensures.goes b.rest (mails_left s.position bytes) b.left_is (sym b.ahead) (own_state me s (H.seen mid) b.own b.known) in
-    let feed : mails_feed s (mails_left s.position bytes) (Some c.moment_or_now-moment.result) ≡ changes given s =
-    ap (λ (n : ℕ). mails_feed s (mails_left s.position bytes) (Some n)) (c.moment_or_now-moment.ensures.value next gives) in
+    let files = files_of bytes None in
+    let passed = passed_alone me bytes (stands me places) f (g.M.Source.left c.begin.new.mbox) (H.seen mid) b in
+    let fits = fits_same given s (traced_alone given s b.own b.within refl) (c.in_ok-check_inputs.ensures.gives bytes None refl passed) in
+    let went = c.in_ok-follow_mails_to_end.ensures.goes files b.rest (mails_left s.position bytes) b.left_is (b.mbox_stands files refl) (sym b.ahead) (own_state me s (H.seen mid) b.own b.known) in
+    let feed : mails_feed files s (mails_left s.position bytes) (Some c.moment_or_now-moment.result) ≡ changes given s =
+    ap (λ (n : ℕ). mails_feed files s (mails_left s.position bytes) (Some n)) (c.moment_or_now-moment.ensures.value next gives) in
     let leaves = subst (λ (x : Feed). LeavesOnly H.moment H.left_since mid new (Prefix s x)) feed went.0 in
     let now = counts c.begin.new.steps (H.written mid) in
     let later = counts c.follow_mails_to_end.new.steps (H.written new) in
     let ends = subst (λ (x : Feed). Ends (outset f.keeper now) x c.follow_mails_to_end.new.follower.keeper later (H.may_leave new)) feed went.1 in (
       follow_leaves H.moment H.left_since (H.may_leave old) given old mid new s b.stand_is began.0 leaves,
-      goes_to_end given s b.stand_is (H.may_leave new) b.own (fits_alone given s b.own b.within refl) c.follow_mails_to_end.new.follower (fill_of f.keeper.store) now later ends,
+      goes_to_end given s b.stand_is (H.may_leave new) b.own fits c.follow_mails_to_end.new.follower (fill_of f.keeper.store) now later ends,
     )
 
 -- ---- what is read and written
@@ -77,6 +107,13 @@ pub returns-in_err-follower-clause-spends : goal.returns-in_err-follower-clause-
 returns-in_err-follower-clause-spends g c = λ bytes places next known seen gives.
     let written = g.H.Shelf.written in
     let began = c.in_err-follower.ensures in
+    opening_spends (given_of c.args.me.now c.args.at (mbox_found bytes places next)) (counts c.args.steps.now (written c.args.shelf.now)) (counts c.begin.new.steps (written c.begin.new.shelf))
+    (began.cost places seen) began.written
+
+pub returns-in_err-check_inputs-clause-spends : goal.returns-in_err-check_inputs-clause-spends
+returns-in_err-check_inputs-clause-spends g c = λ bytes places next known seen gives.
+    let written = g.H.Shelf.written in
+    let began = c.in_ok-follower.ensures in
     opening_spends (given_of c.args.me.now c.args.at (mbox_found bytes places next)) (counts c.args.steps.now (written c.args.shelf.now)) (counts c.begin.new.steps (written c.begin.new.shelf))
     (began.cost places seen) began.written
 
@@ -90,11 +127,14 @@ returns-in_err-follow_mails_to_end-clause-spends g c = λ bytes places next know
     let new = c.follow_mails_to_end.new.shelf in
     let began = c.in_ok-follower.ensures in
     let b = (began.goes bytes places known seen).1 in
-    let went = c.in_err-follow_mails_to_end.ensures.goes b.rest (mails_left s.position bytes) b.left_is (sym b.ahead) (own_state c.args.me.now s (H.seen mid) b.own b.known) in
+    let files = files_of bytes None in
+    let passed = passed_alone c.args.me.now bytes (stands c.args.me.now places) f (g.M.Source.left c.begin.new.mbox) (H.seen mid) b in
+    let fits = fits_same given s (traced_alone given s b.own b.within refl) (c.in_ok-check_inputs.ensures.gives bytes None refl passed) in
+    let went = c.in_err-follow_mails_to_end.ensures.goes files b.rest (mails_left s.position bytes) b.left_is (b.mbox_stands files refl) (sym b.ahead) (own_state c.args.me.now s (H.seen mid) b.own b.known) in
     let moment = c.moment_or_now-moment in
     following_spends given s b.stand_is (counts c.args.steps.now (H.written c.args.shelf.now)) (counts c.begin.new.steps (H.written mid)) (began.cost places seen) began.written
-    (fill_of f.keeper.store) (mails_feed s (mails_left s.position bytes) (Some moment.result)) (counts c.follow_mails_to_end.new.steps (H.written new)) (fits_alone given s b.own b.within refl)
-    (began.fill places seen) (ap (λ (n : ℕ). mails_feed s (mails_left s.position bytes) (Some n)) (moment.ensures.value next gives)) went.1.spends
+    (fill_of f.keeper.store) (mails_feed files s (mails_left s.position bytes) (Some moment.result)) (counts c.follow_mails_to_end.new.steps (H.written new)) fits
+    (began.fill places seen) (ap (λ (n : ℕ). mails_feed files s (mails_left s.position bytes) (Some n)) (moment.ensures.value next gives)) went.1.spends
 
 pub returns-clause-spends : goal.returns-clause-spends
 returns-clause-spends g c = λ bytes places next known seen gives.
@@ -106,11 +146,14 @@ returns-clause-spends g c = λ bytes places next known seen gives.
     let new = c.follow_mails_to_end.new.shelf in
     let began = c.in_ok-follower.ensures in
     let b = (began.goes bytes places known seen).1 in
-    let went = c.in_ok-follow_mails_to_end.ensures.goes b.rest (mails_left s.position bytes) b.left_is (sym b.ahead) (own_state c.args.me.now s (H.seen mid) b.own b.known) in
+    let files = files_of bytes None in
+    let passed = passed_alone c.args.me.now bytes (stands c.args.me.now places) f (g.M.Source.left c.begin.new.mbox) (H.seen mid) b in
+    let fits = fits_same given s (traced_alone given s b.own b.within refl) (c.in_ok-check_inputs.ensures.gives bytes None refl passed) in
+    let went = c.in_ok-follow_mails_to_end.ensures.goes files b.rest (mails_left s.position bytes) b.left_is (b.mbox_stands files refl) (sym b.ahead) (own_state c.args.me.now s (H.seen mid) b.own b.known) in
     let moment = c.moment_or_now-moment in
     following_spends given s b.stand_is (counts c.args.steps.now (H.written c.args.shelf.now)) (counts c.begin.new.steps (H.written mid)) (began.cost places seen) began.written
-    (fill_of f.keeper.store) (mails_feed s (mails_left s.position bytes) (Some moment.result)) (counts c.follow_mails_to_end.new.steps (H.written new)) (fits_alone given s b.own b.within refl)
-    (began.fill places seen) (ap (λ (n : ℕ). mails_feed s (mails_left s.position bytes) (Some n)) (moment.ensures.value next gives)) went.1.spends
+    (fill_of f.keeper.store) (mails_feed files s (mails_left s.position bytes) (Some moment.result)) (counts c.follow_mails_to_end.new.steps (H.written new)) fits
+    (began.fill places seen) (ap (λ (n : ℕ). mails_feed files s (mails_left s.position bytes) (Some n)) (moment.ensures.value next gives)) went.1.spends
 
 -- ---- causes
 
@@ -118,6 +161,11 @@ pub returns-in_err-follower-clause-cause : goal.returns-in_err-follower-clause-c
 returns-in_err-follower-clause-cause g c =
     let p = err_from_is_err_and c.from_residual.result c.from_residual.ensures.1 in
     rw (p.1, p.2) c.in_err-follower.ensures.cause
+
+pub returns-in_err-check_inputs-clause-cause : goal.returns-in_err-check_inputs-clause-cause
+returns-in_err-check_inputs-clause-cause g c =
+    let p = err_from_is_err_and c.from_residual-in_err-check_inputs.result c.from_residual-in_err-check_inputs.ensures.1 in
+    rw (p.1, p.2) (other_cause _ _ _ _ _ c.args.me.now c.in_err-check_inputs.field-0.0 c.in_err-check_inputs.ensures.possible)
 
 pub returns-in_err-follow_mails_to_end-clause-cause : goal.returns-in_err-follow_mails_to_end-clause-cause
 returns-in_err-follow_mails_to_end-clause-cause g c =

@@ -1,4 +1,4 @@
-use Rattle.std.proofs.Common.{refl, ap, sym, subst, ◌∙◌}
+use Rattle.std.proofs.Common.{Some, refl, ap, sym, subst, ◌∙◌}
 use Rattle.std.proofs.lemmas.Result.{err_from_is_err_and}
 use Rattle.mboxrd.specs.Reading as mbox
 use Rattle.outside.specs.Causes.{Rose}
@@ -7,6 +7,7 @@ use Rattle.state_store.specs.Commits.{fill_of}
 use Rattle.state_store.specs.Stored.{IsStored}
 use Rattle.steps_file.specs.Reading as steps
 use Rattle.follower.specs.Committing.{AllStand}
+use Rattle.follower.specs.Feed.{files_of}
 use Rattle.follower.specs.Spending.{counts}
 use Rattle.keeper.specs.Keeping.{Keeping}
 use Rattle.state_store.specs.Stands.{stands}
@@ -14,8 +15,8 @@ use Rattle.state_store.proofs.Appending.{is_settled}
 use Rattle.follow.specs.Outcome.{TakesAll, changes, given_of, mbox_budget, steps_budget, steps_found}
 use Rattle.follow.specs.Replies.{Took}
 use Rattle.follow.specs.Statuses.{refusal_of}
-use Rattle.follow.proofs.Followed.{begin_leaves, begin_stops, both_begun, follow_leaves, following_spends, goes_to_end, halts_stop, lines_begun, lines_fail, opening_spends, own_state}
-use Rattle.follow.proofs.Replied.{cause_on, cause_since_all, caused, mbox_took_on, steps_took_on, took_all, took_first, took_within}
+use Rattle.follow.proofs.Followed.{begin_leaves, begin_stops, both_begun, fits_same, follow_leaves, following_spends, goes_to_end, halts_stop, lines_begun, lines_fail, opening_spends, other_stops, own_state}
+use Rattle.follow.proofs.Replied.{cause_on, cause_since_all, caused, mbox_took_on, other_cause, steps_took_on, took_all, took_first, took_within}
 use Rattle.follow.proofs.following.follow_steps.Goals as goal
 
 pub returns-in_err-follower-clause-goes : goal.returns-in_err-follower-clause-goes
@@ -47,6 +48,30 @@ returns-in_err-start_lines-clause-goes g c = λ bytes lines places next known to
           c.in_err-start_lines.field-0.0 c.in_err-start_lines.ensures.starts,
     )
 
+-- an input is another one
+pub returns-in_err-check_inputs-clause-goes : goal.returns-in_err-check_inputs-clause-goes
+returns-in_err-check_inputs-clause-goes g c = λ bytes lines places next known told seen.
+    let H = g.H.Shelf in
+    let p = err_from_is_err_and c.from_residual-in_err-check_inputs.result c.from_residual-in_err-check_inputs.ensures.1 in
+    let me = c.args.me.now in
+    let given = given_of me c.args.at (steps_found bytes lines places next) in
+    let f = c.in_ok-follower.follower in
+    let new = c.start_lines.new.self in
+    let s = new.keeper.state in
+    let shelf = c.begin.new.shelf in
+    let began = c.in_ok-follower.ensures.goes bytes places known seen in
+    let start = c.in_ok-start_lines.ensures in
+    let l = lines_begun (g.S.Source.left c.args.steps_file.now) (g.S.Source.left c.start_lines.new.steps_file) lines f new told start.keeper start.starts in
+    let b = both_begun me c.args.at bytes lines places next (g.M.Source.left c.begin.new.mbox) (g.S.Source.left c.start_lines.new.steps_file) (H.seen shelf) f new began.1 l start.keeper start.mbox in
+    let stored = subst (λ (k : Keeping). WhereKnown (H.seen shelf) (IsStored k.store (H.may_leave shelf))) (sym start.keeper) c.in_ok-follower.ensures.stored in
+    let each : AllStand s.mailbox.me s (H.may_leave shelf) =
+    λ x left. ap (stands s.mailbox.me) (is_settled new.keeper.store (H.may_leave shelf) b.known.places (stored b.known.places b.known.is) x left) ∙ b.known.holds in
+    rw (p.1, p.2) (
+      begin_leaves H.moment H.left_since (H.may_leave c.args.shelf.now) given c.args.shelf.now shelf began.0,
+      other_stops given s b.stand_is (H.may_leave shelf) c.in_err-check_inputs.field-0.0 c.in_err-check_inputs.ensures.possible b.own b.traced
+          (c.in_err-check_inputs.ensures.gives bytes (Some lines) refl b.passed) each,
+    )
+
 pub returns-in_err-follow_lines_to_end-clause-goes : goal.returns-in_err-follow_lines_to_end-clause-goes
 returns-in_err-follow_lines_to_end-clause-goes g c = λ bytes lines places next known told seen.
     let H = g.H.Shelf in
@@ -64,10 +89,11 @@ returns-in_err-follow_lines_to_end-clause-goes g c = λ bytes lines places next 
     let start = c.in_ok-start_lines.ensures in
     let l = lines_begun (g.S.Source.left c.args.steps_file.now) (g.S.Source.left c.start_lines.new.steps_file) lines f new told start.keeper start.starts in
     let b = both_begun me c.args.at bytes lines places next (g.M.Source.left c.begin.new.mbox) (g.S.Source.left c.start_lines.new.steps_file) (H.seen mid) f new began.1 l start.keeper start.mbox in
-    let went = c.in_err-follow_lines_to_end.ensures.goes began.1.rest l.rest (changes given s) began.1.left_is l.left_is b.changes_are b.known in
+    let fits = fits_same given s b.traced (c.in_ok-check_inputs.ensures.gives bytes (Some lines) refl b.passed) in
+    let went = c.in_err-follow_lines_to_end.ensures.goes (files_of bytes (Some lines)) began.1.rest l.rest (changes given s) began.1.left_is l.left_is b.mbox_stands b.steps_stand b.changes_are b.known in
     rw (p.1, p.2) (
       follow_leaves H.moment H.left_since (H.may_leave old) given old mid after s b.stand_is began.0 went.0,
-      halts_stop given s b.stand_is (H.may_leave after) b.own b.fits why c.in_err-follow_lines_to_end.ensures.possible went.1.halts,
+      halts_stop given s b.stand_is (H.may_leave after) b.own fits why c.in_err-follow_lines_to_end.ensures.possible went.1.halts,
     )
 
 pub returns-clause-goes : goal.returns-clause-goes
@@ -85,9 +111,10 @@ returns-clause-goes g c = λ bytes lines places next known told seen.
     let start = c.in_ok-start_lines.ensures in
     let l = lines_begun (g.S.Source.left c.args.steps_file.now) (g.S.Source.left c.start_lines.new.steps_file) lines f new told start.keeper start.starts in
     let b = both_begun me c.args.at bytes lines places next (g.M.Source.left c.begin.new.mbox) (g.S.Source.left c.start_lines.new.steps_file) (H.seen mid) f new began.1 l start.keeper start.mbox in
-    let went = c.in_ok-follow_lines_to_end.ensures.goes began.1.rest l.rest (changes given s) began.1.left_is l.left_is b.changes_are b.known in (
+    let fits = fits_same given s b.traced (c.in_ok-check_inputs.ensures.gives bytes (Some lines) refl b.passed) in
+    let went = c.in_ok-follow_lines_to_end.ensures.goes (files_of bytes (Some lines)) began.1.rest l.rest (changes given s) began.1.left_is l.left_is b.mbox_stands b.steps_stand b.changes_are b.known in (
       follow_leaves H.moment H.left_since (H.may_leave old) given old mid after s b.stand_is began.0 went.0,
-      goes_to_end given s b.stand_is (H.may_leave after) b.own b.fits c.follow_lines_to_end.new.follower (fill_of new.keeper.store) (counts c.begin.new.steps (H.written mid))
+      goes_to_end given s b.stand_is (H.may_leave after) b.own fits c.follow_lines_to_end.new.follower (fill_of new.keeper.store) (counts c.begin.new.steps (H.written mid))
           (counts c.follow_lines_to_end.new.steps (H.written after)) went.1,
     )
 
@@ -107,6 +134,13 @@ returns-in_err-start_lines-clause-spends g c = λ bytes lines places next known 
     opening_spends (given_of c.args.me.now c.args.at (steps_found bytes lines places next)) (counts c.args.steps.now (written c.args.shelf.now)) (counts c.begin.new.steps (written c.begin.new.shelf))
     (began.cost places seen) began.written
 
+pub returns-in_err-check_inputs-clause-spends : goal.returns-in_err-check_inputs-clause-spends
+returns-in_err-check_inputs-clause-spends g c = λ bytes lines places next known told seen.
+    let written = g.H.Shelf.written in
+    let began = c.in_ok-follower.ensures in
+    opening_spends (given_of c.args.me.now c.args.at (steps_found bytes lines places next)) (counts c.args.steps.now (written c.args.shelf.now)) (counts c.begin.new.steps (written c.begin.new.shelf))
+    (began.cost places seen) began.written
+
 pub returns-in_err-follow_lines_to_end-clause-spends : goal.returns-in_err-follow_lines_to_end-clause-spends
 returns-in_err-follow_lines_to_end-clause-spends g c = λ bytes lines places next known told seen.
     let H = g.H.Shelf in
@@ -121,9 +155,10 @@ returns-in_err-follow_lines_to_end-clause-spends g c = λ bytes lines places nex
     let start = c.in_ok-start_lines.ensures in
     let l = lines_begun (g.S.Source.left c.args.steps_file.now) (g.S.Source.left c.start_lines.new.steps_file) lines f new told start.keeper start.starts in
     let b = both_begun me c.args.at bytes lines places next (g.M.Source.left c.begin.new.mbox) (g.S.Source.left c.start_lines.new.steps_file) (H.seen mid) f new goes.1 l start.keeper start.mbox in
-    let went = c.in_err-follow_lines_to_end.ensures.goes goes.1.rest l.rest (changes given s) goes.1.left_is l.left_is b.changes_are b.known in
+    let fits = fits_same given s b.traced (c.in_ok-check_inputs.ensures.gives bytes (Some lines) refl b.passed) in
+    let went = c.in_err-follow_lines_to_end.ensures.goes (files_of bytes (Some lines)) goes.1.rest l.rest (changes given s) goes.1.left_is l.left_is b.mbox_stands b.steps_stand b.changes_are b.known in
     following_spends given s b.stand_is (counts c.args.steps.now (H.written c.args.shelf.now)) (counts c.begin.new.steps (H.written mid)) (began.cost places seen) began.written
-    (fill_of new.keeper.store) (changes given s) (counts c.follow_lines_to_end.new.steps (H.written c.follow_lines_to_end.new.shelf)) b.fits
+    (fill_of new.keeper.store) (changes given s) (counts c.follow_lines_to_end.new.steps (H.written c.follow_lines_to_end.new.shelf)) fits
     (ap (λ (k : Keeping). fill_of k.store) start.keeper ∙ began.fill places seen) refl went.1.spends
 
 pub returns-clause-spends : goal.returns-clause-spends
@@ -140,9 +175,10 @@ returns-clause-spends g c = λ bytes lines places next known told seen.
     let start = c.in_ok-start_lines.ensures in
     let l = lines_begun (g.S.Source.left c.args.steps_file.now) (g.S.Source.left c.start_lines.new.steps_file) lines f new told start.keeper start.starts in
     let b = both_begun me c.args.at bytes lines places next (g.M.Source.left c.begin.new.mbox) (g.S.Source.left c.start_lines.new.steps_file) (H.seen mid) f new goes.1 l start.keeper start.mbox in
-    let went = c.in_ok-follow_lines_to_end.ensures.goes goes.1.rest l.rest (changes given s) goes.1.left_is l.left_is b.changes_are b.known in
+    let fits = fits_same given s b.traced (c.in_ok-check_inputs.ensures.gives bytes (Some lines) refl b.passed) in
+    let went = c.in_ok-follow_lines_to_end.ensures.goes (files_of bytes (Some lines)) goes.1.rest l.rest (changes given s) goes.1.left_is l.left_is b.mbox_stands b.steps_stand b.changes_are b.known in
     following_spends given s b.stand_is (counts c.args.steps.now (H.written c.args.shelf.now)) (counts c.begin.new.steps (H.written mid)) (began.cost places seen) began.written
-    (fill_of new.keeper.store) (changes given s) (counts c.follow_lines_to_end.new.steps (H.written c.follow_lines_to_end.new.shelf)) b.fits
+    (fill_of new.keeper.store) (changes given s) (counts c.follow_lines_to_end.new.steps (H.written c.follow_lines_to_end.new.shelf)) fits
     (ap (λ (k : Keeping). fill_of k.store) start.keeper ∙ began.fill places seen) refl went.1.spends
 
 -- ---- causes, and the bytes that were taken
@@ -178,6 +214,20 @@ returns-in_err-start_lines-clause-steps_took g c =
     (took_first (left c.args.steps_file.now) (left c.start_lines.new.steps_file) (steps.buffered c.in_ok-follower.follower.lines) new steps_budget began.lines.0 began.lines.1 began.lines.2
     c.in_err-start_lines.ensures.took)
 
+pub returns-in_err-check_inputs-clause-cause : goal.returns-in_err-check_inputs-clause-cause
+returns-in_err-check_inputs-clause-cause g c =
+    let p = err_from_is_err_and c.from_residual-in_err-check_inputs.result c.from_residual-in_err-check_inputs.ensures.1 in
+    rw (p.1, p.2) (other_cause _ _ _ _ _ c.args.me.now c.in_err-check_inputs.field-0.0 c.in_err-check_inputs.ensures.possible)
+
+pub returns-in_err-check_inputs-clause-steps_took : goal.returns-in_err-check_inputs-clause-steps_took
+returns-in_err-check_inputs-clause-steps_took g c =
+    let left = g.S.Source.left in
+    let began = c.in_ok-follower.ensures in
+    let new = steps.buffered c.start_lines.new.self.lines in
+    took_within (left c.args.steps_file.now) (left c.start_lines.new.steps_file) new steps_budget
+    (took_first (left c.args.steps_file.now) (left c.start_lines.new.steps_file) (steps.buffered c.in_ok-follower.follower.lines) new steps_budget began.lines.0 began.lines.1 began.lines.2
+    c.in_ok-start_lines.ensures.took)
+
 pub follow_lines_to_end-requires-clause-stored : goal.follow_lines_to_end-requires-clause-stored
 follow_lines_to_end-requires-clause-stored g c =
     let H = g.H.Shelf in
@@ -196,7 +246,7 @@ returns-in_err-follow_lines_to_end-clause-cause g c =
     let why = c.in_err-follow_lines_to_end.field-0.0 in
     let mails = mbox_took_on (M.left c.args.mbox.now) (M.left c.begin.new.mbox) (M.left c.follow_lines_to_end.new.mbox) c.in_ok-follower.follower c.start_lines.new.self new began.mbox_took start.mbox went.mbox_took in
     let lines = steps_took_on (S.left c.args.steps_file.now) (S.left c.start_lines.new.steps_file) (S.left c.follow_lines_to_end.new.steps_file) c.in_ok-follower.follower c.start_lines.new.self new
-    began.lines start.took went.steps_took in
+    (began.lines.0, began.lines.1, began.lines.2) start.took went.steps_took in
     let here = caused _ _ _ (TakesAll (M.left c.args.mbox.now) (M.left c.follow_lines_to_end.new.mbox) mbox_budget) (TakesAll (S.left c.args.steps_file.now) (S.left c.follow_lines_to_end.new.steps_file) steps_budget)
     new c.args.me.now why went.cause (λ all. took_all _ _ (mbox.buffered new.mbox) mbox_budget all mails) (λ all. took_all _ _ (steps.buffered new.lines) steps_budget all lines) in
     rw (p.1, p.2) (cause_since_all (M.faults c.args.mbox.now) (M.faults c.begin.new.mbox) (M.faults c.follow_lines_to_end.new.mbox)
@@ -215,9 +265,10 @@ pub returns-in_err-follow_lines_to_end-clause-steps_took : goal.returns-in_err-f
 returns-in_err-follow_lines_to_end-clause-steps_took g c =
     let left = g.S.Source.left in
     let new = c.follow_lines_to_end.new.follower in
+    let begun = c.in_ok-follower.ensures.lines in
     took_within (left c.args.steps_file.now) (left c.follow_lines_to_end.new.steps_file) (steps.buffered new.lines) steps_budget
     (steps_took_on (left c.args.steps_file.now) (left c.start_lines.new.steps_file) (left c.follow_lines_to_end.new.steps_file) c.in_ok-follower.follower c.start_lines.new.self new
-    c.in_ok-follower.ensures.lines c.in_ok-start_lines.ensures.took c.in_err-follow_lines_to_end.ensures.steps_took)
+    (begun.0, begun.1, begun.2) c.in_ok-start_lines.ensures.took c.in_err-follow_lines_to_end.ensures.steps_took)
 
 pub returns-clause-mbox_took : goal.returns-clause-mbox_took
 returns-clause-mbox_took g c =
@@ -231,6 +282,7 @@ pub returns-clause-steps_took : goal.returns-clause-steps_took
 returns-clause-steps_took g c =
     let left = g.S.Source.left in
     let new = c.follow_lines_to_end.new.follower in
+    let begun = c.in_ok-follower.ensures.lines in
     took_within (left c.args.steps_file.now) (left c.follow_lines_to_end.new.steps_file) (steps.buffered new.lines) steps_budget
     (steps_took_on (left c.args.steps_file.now) (left c.start_lines.new.steps_file) (left c.follow_lines_to_end.new.steps_file) c.in_ok-follower.follower c.start_lines.new.self new
-    c.in_ok-follower.ensures.lines c.in_ok-start_lines.ensures.took c.in_ok-follow_lines_to_end.ensures.steps_took)
+    (begun.0, begun.1, begun.2) c.in_ok-start_lines.ensures.took c.in_ok-follow_lines_to_end.ensures.steps_took)

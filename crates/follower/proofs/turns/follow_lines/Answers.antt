@@ -33,11 +33,11 @@ loop-preserved g c =
       shelf_later = omega (arith, past.shelf_later, round.shelf_later);
       mbox_took = mbox_takes (mails c.args.mbox.now) (mails c.loop.mbox) (mails new.mbox) c.args.follower.now.mbox c.loop.follower.mbox new.follower.mbox past.mbox_took round.mbox_took;
       steps_took = steps_takes (left c.args.steps_file.now) (left c.loop.steps_file) (left new.steps_file) c.args.follower.now.lines c.loop.follower.lines new.follower.lines past.steps_took round.steps_took;
-      goes = λ last start feed on.
-          let first = past.goes last start feed on in
-          let second = round.goes last start feed first.1 in (
+      goes = λ files last start feed on.
+          let first = past.goes files last start feed on in
+          let second = round.goes files last start feed first.1 in (
             and_then H.moment H.left_since c.args.shelf.now c.loop.shelf new.shelf (Prefix start.state feed) (Prefix start.state feed) (Prefix start.state feed) first.0 second.0 (λ _ p. p) (λ _ p. p),
-            applied start feed (counts new.steps (H.written new.shelf)) (H.may_leave new.shelf) (H.seen new.shelf) last (LinesToCome last new.follower (mails new.mbox) (left new.steps_file)) new.follower.keeper
+            applied start feed (counts new.steps (H.written new.shelf)) (H.may_leave new.shelf) (H.seen new.shelf) last (LinesToCome files last new.follower (mails new.mbox) (left new.steps_file)) new.follower.keeper
                 c.in_ok-round_of_line.field-0 c.in-Applied.is second.1,
           );
     }
@@ -51,24 +51,24 @@ returns-in-End-clause-steps_took g c =
     steps_takes (g.S.Source.left c.args.steps_file.now) (g.S.Source.left c.loop.steps_file) (g.S.Source.left c.round_of_line.new.steps_file) c.args.follower.now.lines c.loop.follower.lines c.round_of_line.new.follower.lines c.loop.invariant.steps_took c.in_ok-round_of_line.ensures.steps_took
 
 pub returns-in_err-round_of_line-clause-goes : goal.returns-in_err-round_of_line-clause-goes
-returns-in_err-round_of_line-clause-goes g c = λ last start feed on.
+returns-in_err-round_of_line-clause-goes g c = λ files last start feed on.
     let H = g.H.Shelf in
     let p = err_from_is_err_and c.from_residual.result c.from_residual.ensures.1 in
-    let first = c.loop.invariant.goes last start feed on in
-    let second = c.in_err-round_of_line.ensures.goes last start feed first.1 in
+    let first = c.loop.invariant.goes files last start feed on in
+    let second = c.in_err-round_of_line.ensures.goes files last start feed first.1 in
     rw (p.1, p.2) (
       and_then H.moment H.left_since c.args.shelf.now c.loop.shelf c.round_of_line.new.shelf (Prefix start.state feed) (Prefix start.state feed) (Prefix start.state feed) first.0 second.0 (λ _ p. p) (λ _ p. p),
       second.1,
     )
 
 pub returns-in-End-clause-goes : goal.returns-in-End-clause-goes
-returns-in-End-clause-goes g c = λ last start feed on.
+returns-in-End-clause-goes g c = λ files last start feed on.
     let H = g.H.Shelf in
     let new = c.round_of_line.new in
-    let first = c.loop.invariant.goes last start feed on in
-    let second = c.in_ok-round_of_line.ensures.goes last start feed first.1 in (
+    let first = c.loop.invariant.goes files last start feed on in
+    let second = c.in_ok-round_of_line.ensures.goes files last start feed first.1 in (
       and_then H.moment H.left_since c.args.shelf.now c.loop.shelf new.shelf (Prefix start.state feed) (Prefix start.state feed) (Prefix start.state feed) first.0 second.0 (λ _ p. p) (λ _ p. p),
-      ended start feed (counts new.steps (H.written new.shelf)) (H.may_leave new.shelf) (H.seen new.shelf) last (LinesToCome last new.follower (g.M.Source.left new.mbox) (g.S.Source.left new.steps_file)) new.follower.keeper
+      ended start feed (counts new.steps (H.written new.shelf)) (H.may_leave new.shelf) (H.seen new.shelf) last (LinesToCome files last new.follower (g.M.Source.left new.mbox) (g.S.Source.left new.steps_file)) new.follower.keeper
           c.in_ok-round_of_line.field-0 c.in-End.is second.1,
     )
 
@@ -86,7 +86,7 @@ loop-init g c =
       shelf_later = omega arith;
       mbox_took = mbox_takes_none (g.M.Source.left c.args.mbox.now) c.args.follower.now.mbox;
       steps_took = steps_takes_none (g.S.Source.left c.args.steps_file.now) c.args.follower.now.lines;
-      goes = λ last start feed on. (
+      goes = λ files last start feed on. (
         nothing_leaves H.moment H.left_since H.seen H.may_leave start feed on.others c.args.follower.now.keeper (counts c.args.steps.now (H.written shelf)) shelf (g.met.H.Shelf.only_now shelf) on.known c.requires.stored,
         on,
       );

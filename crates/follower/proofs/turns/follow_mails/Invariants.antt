@@ -6,7 +6,7 @@ use Rattle.state_store.specs.States.{max_changes}
 use Rattle.keeper.specs.Keeping.{IsKept}
 use Rattle.follower.specs.Committing.{MailsToCome, OnWay, Outset, Prefix}
 use Rattle.follower.specs.Spending.{counts}
-use Rattle.follower.specs.Feed.{Feed}
+use Rattle.follower.specs.Feed.{Feed, Files}
 use Rattle.follower.proofs.turns.follow_mails.Given as goal
 
 abbrev pub invariant-loop : goal.invariant-loop
@@ -19,10 +19,10 @@ invariant-loop g l = record {
   later : g.M.Source.faults l.fn.mbox ≤ g.M.Source.faults l.mbox;
   shelf_later : g.H.Shelf.faults l.fn.shelf ≤ g.H.Shelf.faults l.shelf;
   took : (bytes : List ℕ) × mbox_reading.Takes (g.M.Source.left l.fn.mbox) (g.M.Source.left l.mbox) l.fn.follower.mbox l.follower.mbox bytes;
-  goes : (start : Outset) (feed : Feed) → OnWay start feed (MailsToCome l.fn.follower (g.M.Source.left l.fn.mbox)) l.fn.follower.keeper
+  goes : (files : Files) (start : Outset) (feed : Feed) → OnWay start feed (MailsToCome files l.fn.follower (g.M.Source.left l.fn.mbox)) l.fn.follower.keeper
       (counts l.fn.steps (g.H.Shelf.written l.fn.shelf)) (g.H.Shelf.seen l.fn.shelf)
       → LeavesOnly g.H.Shelf.moment g.H.Shelf.left_since l.fn.shelf l.shelf (Prefix start.state feed)
-      × OnWay start feed (MailsToCome l.follower (g.M.Source.left l.mbox)) l.follower.keeper
+      × OnWay start feed (MailsToCome files l.follower (g.M.Source.left l.mbox)) l.follower.keeper
       (counts l.steps (g.H.Shelf.written l.shelf)) (g.H.Shelf.seen l.shelf);
 }
 

@@ -2,7 +2,7 @@ use Rattle.std.proofs.Common.{ap, ◌∙◌}
 use Rattle.mailbox_model.specs.Mailbox.{Mailbox}
 use Rattle.arrivals.specs.Arrivals.{arrival_taken}
 use Rattle.follower.specs.Following.{Following}
-use Rattle.follower.proofs.Turning.{next_known}
+use Rattle.follower.proofs.Turning.{next_known, next_stands}
 use Rattle.follower.proofs.follower.Follower.next_arrival.Goals as goal
 
 pub returns-clause-next : goal.returns-clause-next
@@ -17,3 +17,14 @@ returns-clause-next g c =
     let change = c.in_ok-arrival_of.ensures.change ∙ ap (λ uid. arrival_taken uid c.in_ok-taken.taken) uid in
     next_known (g.M.Source.left c.args.mbox.now) (g.M.Source.left c.next.new.source) c.args.self.now now c.self.inside.mbox c.in_ok-taken.taken c.in_ok-arrival_of.field-0
     (ap (λ (f : Following). f.mbox) c.self.view_is) change c.in_ok-taken.ensures.answer
+
+pub returns-clause-stands : goal.returns-clause-stands
+returns-clause-stands g c =
+    let now : Following = record {
+      keeper = c.self.inside.keeper;
+      mbox = c.next.new.self;
+      lines = c.self.inside.lines;
+      failed = c.self.inside.failed;
+    } in
+    next_stands (g.M.Source.left c.args.mbox.now) (g.M.Source.left c.next.new.source) c.args.self.now now c.self.inside.mbox c.next_uid-uid.result c.in_ok-taken.taken c.in_ok-arrival_of.field-0
+    (ap (λ (f : Following). f.mbox) c.self.view_is) c.in_ok-arrival_of.ensures.change c.in_ok-taken.ensures.position c.in_ok-taken.ensures.traced

@@ -5,7 +5,6 @@ use Rattle.tail_journal.specs.Pending.{with_change}
 use Rattle.mboxrd.specs.Reading as mbox_reading
 use Rattle.follower.specs.Feed.{counted}
 use Rattle.follower.specs.Following.{Following}
-use Rattle.state_image.specs.declared.position.Position.{Position}
 use Rattle.touched_chats.specs.Costs.{change_cost}
 use Rattle.follower.proofs.Turning.{keep_cause, keep_full, line_reads, line_stops, line_turns, lines_known, made_reads, none_reads, tried_reads}
 use Rattle.follower.proofs.follower.Follower.turn_line.Goals as goal
@@ -28,65 +27,65 @@ returns-clause-mbox_took g c =
     c.self.view_is c.in_ok-change.ensures.took)
 
 pub returns-in_err-apply-clause-goes : goal.returns-in_err-apply-clause-goes
-returns-in_err-apply-clause-goes g c = λ last.
+returns-in_err-apply-clause-goes g c = λ files last.
     let p = err_from_is_err_and c.from_residual-in_err-apply.result c.from_residual-in_err-apply.ensures.1 in
     let old : Following = record c.args.self.now { failed = true } in
     let why = c.in_err-apply.field-0.0 in
-    let next = lines_known (g.S.Source.left c.args.steps_file.now) (g.S.Source.left c.next.new.source) c.self.inside.lines old.lines c.next.new.self c.in_ok-step.field-0
-    (ap (λ (f : Following). f.lines) c.self.view_is) c.in_ok-step.ensures.answer in
+    let passed : Following = record { keeper = c.self.inside.keeper; mbox = c.self.inside.mbox; lines = c.next.new.self; failed = true } in
+    let next = lines_known (g.S.Source.left c.args.steps_file.now) (g.S.Source.left c.next.new.source) old passed c.self.inside.lines c.in_ok-step.field-0 c.in-Step.step
+    (ap (λ (f : Following). f.lines) c.self.view_is) c.in-Step.is c.in_ok-step.ensures.answer c.in_ok-step.ensures.position c.in_ok-step.ensures.traced in
     let here = ap (λ (f : Following). record f { lines = c.next.new.self; failed = true }) c.self.view_is in
     let before = c.counted.ensures ∙ ap counted (c.position-position.ensures.value ∙ ap (λ (f : Following). f.keeper.state.position) c.self.view_is) in
-    let place = c.at_line-position.ensures ∙ ap (λ (p : Position). record p { steps = c.place-2.result; lines = p.lines + 1 }) before
-    ∙ ap (λ steps. record (counted old.keeper.state.position) { steps = steps; lines = old.keeper.state.position.lines + 1 }) c.place-2.ensures in
-    rw (p.1, p.2) (line_stops _ _ _ _ old _ c.change_of.new.self _ c.in-Step.step c.at_line-position.result (c.in_ok-change.change, c.in_ok-change.position) here c.in_ok-change.ensures.rest
-    (sym c.requires.place) c.in-Step.is next place c.in_ok-change.ensures.makes last _ (keep_cause why c.in_err-apply.ensures.cause)
+    let place = c.at_line-position.ensures ∙ (λ i. record (before i) { steps = c.place-2.ensures i; lines = (before i).lines + 1; steps_trace = c.trace-2.ensures.value i }) in
+    rw (p.1, p.2) (line_stops files _ _ _ _ old _ c.change_of.new.self _ c.in-Step.step c.at_line-position.result (c.in_ok-change.change, c.in_ok-change.position) here c.in_ok-change.ensures.rest
+    (sym c.requires.place) c.in-Step.is next place (c.in_ok-change.ensures.makes files) last _ (keep_cause why c.in_err-apply.ensures.cause)
     (λ e. subst (λ (f : Following). is_refused f.keeper.state c.in_ok-change.change ≡ true) c.self-2.view_is (c.in_err-apply.ensures.full (ap Err (keep_full why e)))))
 
 pub returns-clause-goes : goal.returns-clause-goes
-returns-clause-goes g c = λ last.
+returns-clause-goes g c = λ files last.
     let old : Following = record c.args.self.now { failed = true } in
     let change = c.in_ok-change.change in
     let position = c.in_ok-change.position in
-    let next = lines_known (g.S.Source.left c.args.steps_file.now) (g.S.Source.left c.next.new.source) c.self.inside.lines old.lines c.next.new.self c.in_ok-step.field-0
-    (ap (λ (f : Following). f.lines) c.self.view_is) c.in_ok-step.ensures.answer in
+    let passed : Following = record { keeper = c.self.inside.keeper; mbox = c.self.inside.mbox; lines = c.next.new.self; failed = true } in
+    let next = lines_known (g.S.Source.left c.args.steps_file.now) (g.S.Source.left c.next.new.source) old passed c.self.inside.lines c.in_ok-step.field-0 c.in-Step.step
+    (ap (λ (f : Following). f.lines) c.self.view_is) c.in-Step.is c.in_ok-step.ensures.answer c.in_ok-step.ensures.position c.in_ok-step.ensures.traced in
     let here = ap (λ (f : Following). record f { lines = c.next.new.self; failed = true }) c.self.view_is in
     let before = c.counted.ensures ∙ ap counted (c.position-position.ensures.value ∙ ap (λ (f : Following). f.keeper.state.position) c.self.view_is) in
-    let place = c.at_line-position.ensures ∙ ap (λ (p : Position). record p { steps = c.place-2.result; lines = p.lines + 1 }) before
-    ∙ ap (λ steps. record (counted old.keeper.state.position) { steps = steps; lines = old.keeper.state.position.lines + 1 }) c.place-2.ensures in
+    let place = c.at_line-position.ensures ∙ (λ i. record (before i) { steps = c.place-2.ensures i; lines = (before i).lines + 1; steps_trace = c.trace-2.ensures.value i }) in
     let new : Following = record { keeper = c.apply.new.self; mbox = c.self-2.inside.mbox; lines = c.self-2.inside.lines; failed = false } in
     let room = subst (λ (f : Following). is_refused f.keeper.state change ≡ false) c.self-2.view_is c.in_ok-apply.ensures.room in
     let state = c.in_ok-apply.ensures.state ∙ ap (λ (f : Following). after_change f.keeper.state change position) c.self-2.view_is in
     let pending = c.in_ok-apply.ensures.pending ∙ ap (λ (f : Following). with_change f.keeper.pending change) c.self-2.view_is in
     let same = ap (λ (f : Following). f.lines) c.self-2.view_is ∙ ap (λ (f : Following). f.lines) c.in_ok-change.ensures.rest in
-    line_turns _ _ _ _ old _ c.change_of.new.self _ c.in-Step.step c.at_line-position.result (change, position) here c.in_ok-change.ensures.rest
-    (sym c.requires.place) c.in-Step.is next place c.in_ok-change.ensures.makes new last room (state, pending) (ap (λ (f : Following). f.mbox) c.self-2.view_is) same
+    line_turns files _ _ _ _ old _ c.change_of.new.self _ c.in-Step.step c.at_line-position.result (change, position) here c.in_ok-change.ensures.rest
+    (sym c.requires.place) c.in-Step.is next place (c.in_ok-change.ensures.makes files) new last room (state, pending) (ap (λ (f : Following). f.mbox) c.self-2.view_is) same
 
 pub returns-in_err-apply-clause-cost : goal.returns-in_err-apply-clause-cost
-returns-in_err-apply-clause-cost g c = λ last.
+returns-in_err-apply-clause-cost g c = λ files last.
     let p = err_from_is_err_and c.from_residual-in_err-apply.result c.from_residual-in_err-apply.ensures.1 in
     let old : Following = record c.args.self.now { failed = true } in
-    let next = lines_known (g.S.Source.left c.args.steps_file.now) (g.S.Source.left c.next.new.source) c.self.inside.lines old.lines c.next.new.self c.in_ok-step.field-0
-    (ap (λ (f : Following). f.lines) c.self.view_is) c.in_ok-step.ensures.answer in
+    let passed : Following = record { keeper = c.self.inside.keeper; mbox = c.self.inside.mbox; lines = c.next.new.self; failed = true } in
+    let next = lines_known (g.S.Source.left c.args.steps_file.now) (g.S.Source.left c.next.new.source) old passed c.self.inside.lines c.in_ok-step.field-0 c.in-Step.step
+    (ap (λ (f : Following). f.lines) c.self.view_is) c.in-Step.is c.in_ok-step.ensures.answer c.in_ok-step.ensures.position c.in_ok-step.ensures.traced in
     let here = ap (λ (f : Following). record f { lines = c.next.new.self; failed = true }) c.self.view_is in
     let before = c.counted.ensures ∙ ap counted (c.position-position.ensures.value ∙ ap (λ (f : Following). f.keeper.state.position) c.self.view_is) in
-    let place = c.at_line-position.ensures ∙ ap (λ (p : Position). record p { steps = c.place-2.result; lines = p.lines + 1 }) before
-    ∙ ap (λ steps. record (counted old.keeper.state.position) { steps = steps; lines = old.keeper.state.position.lines + 1 }) c.place-2.ensures in
+    let place = c.at_line-position.ensures ∙ (λ i. record (before i) { steps = c.place-2.ensures i; lines = (before i).lines + 1; steps_trace = c.trace-2.ensures.value i }) in
     let cost = subst (λ (f : Following). c.apply.new.steps ≤ c.args.steps.now + change_cost f.keeper.state.mailbox c.in_ok-change.change) c.self-2.view_is c.in_err-apply.ensures.cost in
-    rw p.1 (line_reads _ _ _ _ old _ c.change_of.new.self _ c.in-Step.step c.at_line-position.result (c.in_ok-change.change, c.in_ok-change.position) here c.in_ok-change.ensures.rest
-    (sym c.requires.place) c.in-Step.is next place c.in_ok-change.ensures.makes last c.args.steps.now c.apply.new.steps cost)
+    rw p.1 (line_reads files _ _ _ _ old _ c.change_of.new.self _ c.in-Step.step c.at_line-position.result (c.in_ok-change.change, c.in_ok-change.position) here c.in_ok-change.ensures.rest
+    (sym c.requires.place) c.in-Step.is next place (c.in_ok-change.ensures.makes files) last c.args.steps.now c.apply.new.steps cost)
 
 pub returns-clause-cost : goal.returns-clause-cost
-returns-clause-cost g c = λ last.
+returns-clause-cost g c = λ files last.
     let old : Following = record c.args.self.now { failed = true } in
-    let next = lines_known (g.S.Source.left c.args.steps_file.now) (g.S.Source.left c.next.new.source) c.self.inside.lines old.lines c.next.new.self c.in_ok-step.field-0
-    (ap (λ (f : Following). f.lines) c.self.view_is) c.in_ok-step.ensures.answer in
+    let passed : Following = record { keeper = c.self.inside.keeper; mbox = c.self.inside.mbox; lines = c.next.new.self; failed = true } in
+    let next = lines_known (g.S.Source.left c.args.steps_file.now) (g.S.Source.left c.next.new.source) old passed c.self.inside.lines c.in_ok-step.field-0 c.in-Step.step
+    (ap (λ (f : Following). f.lines) c.self.view_is) c.in-Step.is c.in_ok-step.ensures.answer c.in_ok-step.ensures.position c.in_ok-step.ensures.traced in
     let here = ap (λ (f : Following). record f { lines = c.next.new.self; failed = true }) c.self.view_is in
     let before = c.counted.ensures ∙ ap counted (c.position-position.ensures.value ∙ ap (λ (f : Following). f.keeper.state.position) c.self.view_is) in
-    let place = c.at_line-position.ensures ∙ ap (λ (p : Position). record p { steps = c.place-2.result; lines = p.lines + 1 }) before
-    ∙ ap (λ steps. record (counted old.keeper.state.position) { steps = steps; lines = old.keeper.state.position.lines + 1 }) c.place-2.ensures in
+    let place = c.at_line-position.ensures ∙ (λ i. record (before i) { steps = c.place-2.ensures i; lines = (before i).lines + 1; steps_trace = c.trace-2.ensures.value i }) in
     let cost = subst (λ (f : Following). c.apply.new.steps ≤ c.args.steps.now + change_cost f.keeper.state.mailbox c.in_ok-change.change) c.self-2.view_is c.in_ok-apply.ensures.cost in
-    line_reads _ _ _ _ old _ c.change_of.new.self _ c.in-Step.step c.at_line-position.result (c.in_ok-change.change, c.in_ok-change.position) here c.in_ok-change.ensures.rest
-    (sym c.requires.place) c.in-Step.is next place c.in_ok-change.ensures.makes last c.args.steps.now c.apply.new.steps cost
+    line_reads files _ _ _ _ old _ c.change_of.new.self _ c.in-Step.step c.at_line-position.result (c.in_ok-change.change, c.in_ok-change.position) here c.in_ok-change.ensures.rest
+    (sym c.requires.place) c.in-Step.is next place (c.in_ok-change.ensures.makes files) last c.args.steps.now c.apply.new.steps cost
 
 pub returns-in_err-step-clause-reads : goal.returns-in_err-step-clause-reads
 returns-in_err-step-clause-reads g c =
