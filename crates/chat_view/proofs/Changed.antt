@@ -32,6 +32,11 @@ on_ok_each (Err e) f p = tt
 pub as_many : (cards : List Shown) (s : ChatState) → IsMarkedFor cards s → length s.marks ≡ length cards
 as_many cards s is = ap length is.marks ∙ length-map cards (λ c. c.mark)
 
+-- and as many as spots
+pub has_mark : (cards : List Shown) (s : ChatState) → IsMarkedFor cards s → (i : ℕ) → i < length s.spots → i < length s.marks
+has_mark cards s is i within =
+    omega (arith, within, as_many cards s is, ap length is.spots, length-map cards (λ c. c.spot))
+
 module _ (before : List Shown) (spot : Spot) (card : Card) (mark : Option Mark) (after : List Shown) where
   abbrev c : Shown
   c = shown spot card mark

@@ -2,7 +2,7 @@
 ghost use Rattle.std.specs.Prelude.{◌≡◌, ◌<◌, ◌&&◌, [], ◌∷◌, ◌++◌, List, Option, true, false, length, nat_lt, slice_get, IfOk, OnOk};
 ghost use Rattle.group_roster.specs.Setters.{at, setters_put, setters_taken, stays_with, stays_without};
 ghost use Rattle.std.specs.List.Sorted.{IsStrictlySortedBy};
-ghost use Rattle.std.specs.Option.{option_and_then};
+ghost use Rattle.std.specs.Option.{option_and_then, option_flatten};
 ghost use Rattle.card_type.specs.Spots.{spot_cmp};
 ghost use Rattle.mailbox_model.specs.declared.row.Mark.{Mark};
 ghost use Rattle.mailbox_model.specs.Lists.{Bytes};
@@ -86,16 +86,19 @@ impl ChatState {
         self.settle()
     }
 
+    /// The mark at an index; `None` where none is.
+    fn mark_at(&self, index: usize) -> Option<Mark>
+        ensures { result ≡ option_flatten (slice_get self.now.marks index) }
+    {
+        self.marks.get(index).copied().flatten()
+    }
+
     /// Takes the spot and the mark of a card out at an index.
     fn remove(&mut self, index: usize) -> Result<(), Memory>
         ensures key { OnOk result (self.new.key ≡ self.old.key) }
         ensures taken { OnOk result (IsCounted self.old → self.new ≡ without_at index self.old) }
     {
-        let Some(mark) = self.marks.get(index) else {
-            self.spots.remove(index);
-            return self.settle();
-        };
-        self.fresh = fresh_without(self.fresh, *mark);
+        self.fresh = fresh_without(self.fresh, self.mark_at(index));
         self.spots.remove(index);
         self.marks.remove(index);
         self.settle()
@@ -147,15 +150,12 @@ impl ChatState {
         Ok(true)
     }
 
-    /// Marks the card at an index of the spots anew.
-    fn mark_at(&mut self, index: usize, mark: Option<Mark>) -> Result<(), Memory>
+    /// Puts another mark in place of the one at an index.
+    fn set_mark(&mut self, index: usize, mark: Option<Mark>) -> Result<(), Memory>
         ensures key { OnOk result (self.new.key ≡ self.old.key) }
-        ensures marked { OnOk result (length self.old.marks < 4294967296 → IsCounted self.old → self.new ≡ marked_at index mark self.old) }
+        ensures marked { OnOk result (index < length self.old.marks → length self.old.marks < 4294967296 → IsCounted self.old → self.new ≡ marked_at index mark self.old) }
     {
-        let Some(other) = self.marks.get(index) else {
-            return self.settle();
-        };
-        self.fresh = fresh_with(fresh_without(self.fresh, *other), mark);
+        self.fresh = fresh_with(fresh_without(self.fresh, self.mark_at(index)), mark);
         self.marks.set(index, mark);
         self.settle()
     }
@@ -257,7 +257,7 @@ impl ChatState {
         ensures absent { OnOk result (IsStrictlySortedBy spot_cmp self.old.spots → has_spot self.old spot.now ≡ false → self.new ≡ self.old) }
     {
         match self.spots.binary_search(spot) {
-            Ok(index) => self.mark_at(index, mark),
+            Ok(index) => self.set_mark(index, mark),
             Err(_) => Ok(()),
         }
     }

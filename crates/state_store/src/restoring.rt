@@ -1,12 +1,14 @@
 //! From what a store finds to the state that stands.
-ghost use Rattle.std.specs.Prelude.{◌≡◌, ◌≢◌, ◌∷◌, [], map, Ok, IfErr, IfOk, IfSome, OnOk};
+ghost use Rattle.std.specs.Prelude.{◌≡◌, ◌≢◌, ◌∷◌, [], false, map, Ok, IfErr, IfOk, IfSome, OnOk};
 ghost use Rattle.std.specs.List.{AllByRecursion};
 ghost use Rattle.outside.specs.StateFaults.{Gives};
 ghost use Rattle.outside.specs.declared.faults.StateFault.TheVariants as fault;
+ghost use Rattle.mailbox_model.specs.Mailbox.{full};
+ghost use Rattle.box_state.specs.Kept.{ready_for};
 ghost use Rattle.state_image.specs.Changes.{FitsChange};
 ghost use Rattle.state_image.specs.Images.{IsPosition};
 ghost use Rattle.checkpoint.specs.Kept.{seen_kept};
-ghost use Rattle.tail_journal.specs.Read.{applied_of, FitsApplied};
+ghost use Rattle.tail_journal.specs.Read.{applied_of, Fails, FitsApplied};
 ghost use Rattle.state_store.specs.States.{IsWithin, state_of};
 ghost use Rattle.state_store.specs.Stands.{made, after_groups, begins, stand_of};
 ghost use Rattle.state_store.specs.Making.{Makes};
@@ -29,6 +31,22 @@ const FIRST_POSITION: Position = Position {
     steps_trace: [0; 32],
 };
 
+/// Makes room for a change that is kept at this offset of the tail. `Damaged` comes exactly where the mailbox has no place
+/// for it. Takes memory.
+fn make_room(mailbox: &mut Mailbox, at: u64, change: &Change) -> Result<(), StateFault>
+    ensures same { mailbox.new.mailbox ≡ mailbox.old.mailbox }
+    ensures ready { OnOk result (mailbox.new.ready ≡ ready_for change.now) }
+    ensures room { OnOk result (full mailbox.old.mailbox change.now ≡ false) }
+    ensures cause { IfErr result (λ why. Fails why (made mailbox.old.mailbox ((at, change.now) ∷ []))) }
+    ensures no_fault { IfErr result (λ why. why ≢ fault.Disk) }
+{
+    match mailbox.plan(change) {
+        Ok(_) => Ok(mailbox.reserve(change)?),
+        Err(PlanFault::Full) => Err(StateFault::Damaged(Place::T, at)),
+        Err(PlanFault::Memory) => Err(StateFault::Memory),
+    }
+}
+
 /// Makes a change that is kept at this offset of the tail. `Damaged` comes exactly where the mailbox has no place for it.
 /// Takes memory.
 fn make_change(mailbox: &mut Mailbox, at: u64, change: Change) -> Result<(), StateFault>
@@ -36,12 +54,7 @@ fn make_change(mailbox: &mut Mailbox, at: u64, change: Change) -> Result<(), Sta
     ensures makes { Makes result mailbox.new.mailbox (made mailbox.old.mailbox ((at, change) ∷ [])) }
     ensures no_fault { IfErr result (λ why. why ≢ fault.Disk) }
 {
-    match mailbox.plan(&change) {
-        Ok(_) => {}
-        Err(PlanFault::Full) => return Err(StateFault::Damaged(Place::T, at)),
-        Err(PlanFault::Memory) => return Err(StateFault::Memory),
-    }
-    mailbox.reserve(&change)?;
+    make_room(mailbox, at, &change)?;
     mailbox.make(change);
     Ok(())
 }

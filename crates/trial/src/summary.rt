@@ -29,12 +29,8 @@ fn list_of<L: Ledger>(engine: &Engine, steps: &mut Steps<L>) -> Result<ListPage,
     ensures page { IfOk result (λ found. found ≡ list_page engine.now.mailbox) }
     ensures cost { steps.new ≤ steps.old + list_cost engine.now.mailbox }
 {
-    match engine.list(steps) {
-        Ok(list) => Ok(list),
-        // An engine is stale only where memory ran out before.
-        Err(AskFault::Stale | AskFault::Memory) => Err(Memory),
-        Err(AskFault::NoChat | AskFault::NoApp) => unreachable!(),
-    }
+    // An engine is stale only where memory ran out before, and a list is refused for nothing else.
+    engine.list(steps).map_err(|_| Memory)
 }
 
 /// How many rows the page of a chat in the list shows.
