@@ -264,7 +264,7 @@ fn empty_updates(alloc: Global, count: u32) -> Result<Items<UpdateRow>, Fail> {
     Ok(rows)
 }
 
-/// The row of a mail without files, readers and an app.
+/// The row of a mail without files, readers, reactions and an app.
 fn bare_row(alloc: Global, shown: &Shown) -> Result<Row, Fail>
     ensures { IfOk result RowHasMoments }
 {
@@ -286,6 +286,7 @@ fn bare_row(alloc: Global, shown: &Shown) -> Result<Row, Fail>
         mark,
         attachments: Items::new(alloc),
         readers: Items::new(alloc),
+        reactions: Items::new(alloc),
         app: false,
         updates: Items::new(alloc),
     })

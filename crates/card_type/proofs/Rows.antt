@@ -17,7 +17,7 @@ use Rattle.card_type.specs.Kinds.{kind_of}
 use Rattle.card_type.specs.Records.{record_of, weight, capped}
 use Rattle.card_type.specs.Rules.{is_valid}
 use Rattle.card_type.specs.Spots.{spot_cmp}
-use Rattle.card_type.proofs.WorkedCards.{bob, me, M1, O1}
+use Rattle.card_type.proofs.WorkedCards.{bob, me, thumb, M1, O1}
 
 -- a chat mail from Bob, edited, taken back and read by one sender or another
 abbrev edit_by : List ℕ → Card
@@ -28,6 +28,10 @@ delete_by from = record (card_of (codes "x2@x.org") from) { deletes = codes "a" 
 
 abbrev receipt_by : List ℕ → Card
 receipt_by from = record (card_of (codes "n1@x.org") from) { receipt = Some O1.id }
+
+-- a reaction to M1
+abbrev reaction_by : List ℕ → Card
+reaction_by from = record (card_of (codes "k1@x.org") from) { replies = M1.id ∷ []; reaction = Some thumb }
 
 -- an app, and a move in it
 abbrev app : Card
@@ -52,8 +56,8 @@ record_m1 : record_of M1 ≡
     ++ replicate 4 0 ++ (0 ∷ 0 ∷ 0 ∷ 2 ∷ codes "Hi") ++ replicate 11 0
 record_m1 = refl
 
--- a code of 2 and a block of 4 bytes more, which is U+1F44D
-weight_of_a_reaction : weight (record M1 { reaction = Some (240 ∷ 159 ∷ 145 ∷ 141 ∷ []) }) ≡ 116
+-- a code of 2 and a block of 4 bytes more
+weight_of_a_reaction : weight (record M1 { reaction = Some thumb }) ≡ 116
 weight_of_a_reaction = refl
 
 weight_of_an_update : weight (move_by bob) ≡ 111
@@ -79,6 +83,16 @@ kind_update = refl
 
 kind_update_of_app : kind_of (record (move_by bob) { app = true }) ≡ kinds.Content
 kind_update_of_app = refl
+
+kind_reaction : kind_of (reaction_by me) ≡ kinds.Reaction
+kind_reaction = refl
+
+-- one that takes back what was said
+kind_empty_reaction : kind_of (record (reaction_by me) { reaction = Some [] }) ≡ kinds.Reaction
+kind_empty_reaction = refl
+
+kind_update_that_reacts : kind_of (record (move_by bob) { reaction = Some thumb }) ≡ kinds.Update
+kind_update_that_reacts = refl
 
 effect_edit : effect_of (edit_by bob) M1 me ≡ Some effects.Edit
 effect_edit = refl
@@ -118,6 +132,24 @@ effect_update_of_no_app = refl
 
 effect_update_second_reply : effect_of (record (move_by bob) { replies = M1.id ∷ app.id ∷ [] }) app me ≡ None
 effect_update_second_reply = refl
+
+effect_reaction : effect_of (reaction_by me) M1 me ≡ Some effects.Reaction
+effect_reaction = refl
+
+effect_reaction_of_the_sender : effect_of (reaction_by bob) M1 me ≡ Some effects.Reaction
+effect_reaction_of_the_sender = refl
+
+effect_reaction_by_copied : effect_of (reaction_by (codes "ann@x.org")) (record M1 { cc = codes "ann@x.org" ∷ [] }) me ≡ Some effects.Reaction
+effect_reaction_by_copied = refl
+
+effect_reaction_by_stranger : effect_of (reaction_by (codes "eve@x.org")) M1 me ≡ None
+effect_reaction_by_stranger = refl
+
+effect_reaction_second_reply : effect_of (record (reaction_by me) { replies = O1.id ∷ M1.id ∷ [] }) M1 me ≡ None
+effect_reaction_second_reply = refl
+
+effect_on_reaction : effect_of (record (reaction_by bob) { replies = codes "k1@x.org" ∷ [] }) (reaction_by me) me ≡ None
+effect_on_reaction = refl
 
 effect_on_edit : effect_of (record (delete_by bob) { deletes = codes "e1@x.org" ∷ [] }) (edit_by bob) me ≡ None
 effect_on_edit = refl

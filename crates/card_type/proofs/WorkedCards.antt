@@ -21,6 +21,10 @@ cid = codes "cid@x.org"
 abbrev pub trip : List ℕ
 trip = codes "abcdefghijk"
 
+-- U+1F44D, a thumb that is raised
+abbrev pub thumb : List ℕ
+thumb = 0xF0 ∷ 0x9F ∷ 0x91 ∷ 0x8D ∷ []
+
 -- a time of 2024-05-01, or of the day after it where the hour passes 23
 abbrev pub at : ℕ → ℕ → ℕ
 at hour minute = 1714521600 + hour * 3600 + minute * 60
@@ -54,6 +58,20 @@ T1 = record M1 { from_name = []; id = codes "t1@x.org"; timer = 60; text = codes
 -- a mail without Message-ID
 abbrev pub F2 : Card
 F2 = record M1 { from_name = []; date = Some 1903860000; id = codes "uid2@none"; text = codes "Late" }
+
+-- ---- reactions to a mail of Bob: a thumb, and nothing, which takes it back
+
+abbrev pub K1 : Card
+K1 =
+    record (card_of (codes "k1@x.org") me) {
+      to = bob ∷ [];
+      date = Some (at 10 10);
+      replies = codes "m1@x.org" ∷ [];
+      reaction = Some thumb;
+    }
+
+abbrev pub K2 : Card
+K2 = record K1 { date = Some (at 10 12); id = codes "k2@x.org"; reaction = Some [] }
 
 -- ---- a mail to Bob, and two receipts for it
 

@@ -6,9 +6,9 @@ use Rattle.std.specs.Str.{bytes_eq}
 use Rattle.card_type.specs.Kinds.{kind_of, is_content}
 use Rattle.card_type.specs.declared.card.Card.{Card}
 use Rattle.card_type.specs.declared.kind.Kind.{Kind}
-use Rattle.card_type.specs.declared.kind.Kind.TheVariants.{Receipt, Delete, Edit, Update, Content}
+use Rattle.card_type.specs.declared.kind.Kind.TheVariants.{Receipt, Delete, Edit, Update, Reaction, Content}
 use Rattle.card_type.specs.declared.effect.Effect.{Effect}
-use Rattle.card_type.specs.declared.effect.Effect.TheVariants.{Edit as edits, Delete as deletes, Read as reads, Update as updates}
+use Rattle.card_type.specs.declared.effect.Effect.TheVariants.{Edit as edits, Delete as deletes, Read as reads, Update as updates, Reaction as reacts}
 
 -- whether bytes are among others
 abbrev pub is_among : List (List ℕ) → List ℕ → Bool
@@ -20,6 +20,7 @@ names_by Receipt c = option_to_list c.receipt
 names_by Delete c = c.deletes
 names_by Edit c = option_to_list c.edit
 names_by Update c = take 1 c.replies
+names_by Reaction c = take 1 c.replies
 names_by Content c = []
 
 abbrev pub names : Card → List (List ℕ)
@@ -35,6 +36,7 @@ effect_by Receipt e t me = if bytes_eq t.from me && not (bytes_eq e.from me) the
 effect_by Delete e t me = if bytes_eq e.from t.from then Some deletes else None
 effect_by Edit e t me = if bytes_eq e.from t.from then Some edits else None
 effect_by Update e t me = if t.app && has_person t e.from then Some updates else None
+effect_by Reaction e t me = if has_person t e.from then Some reacts else None
 effect_by Content e t me = None
 
 -- what e does to t, which is nothing where t is no content card, or e does not name it

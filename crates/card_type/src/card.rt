@@ -125,7 +125,8 @@ pub struct Card {
     pub app: bool,
     /// The updates that it brings to an app, in their order.
     pub updates: Items<Update>,
-    /// What it says of the mails that it answers, as a reaction to them (RFC 9078); in a valid card no more than 255 bytes.
+    /// What it says of the mail that it answers, as a reaction to it (RFC 9078), which takes an earlier one back where it
+    /// is empty; in a valid card no more than 255 bytes.
     pub reaction: Option<Text>,
 }
 

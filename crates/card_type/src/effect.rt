@@ -20,6 +20,8 @@ pub enum Effect {
     Read,
     /// It brings updates to its app.
     Update,
+    /// It is a reaction to it, or takes an earlier one back.
+    Reaction,
 }
 
 fn is_of(named: &Option<Id>, id: &Id) -> bool
@@ -60,7 +62,7 @@ fn names(card: &Card, kind: Kind, id: &Id) -> bool
         Kind::Receipt => is_of(&card.receipt, id),
         Kind::Delete => has_id(&card.deletes, id),
         Kind::Edit => is_of(&card.edit, id),
-        Kind::Update => is_first(&card.replies, id),
+        Kind::Update | Kind::Reaction => is_first(&card.replies, id),
         Kind::Content => false,
     }
 }
@@ -80,6 +82,8 @@ fn has_person(card: &Card, addr: &Addr) -> bool
 /// - Read, where `e` is a Receipt for the id of `t`, and `t` is from oneself and `e` is not.
 /// - Update, where `e` is an Update, the first of its `replies` is the id of `t`, `t` is an app, and the From
 ///   address of `e` is among From, To and Cc of `t`.
+/// - Reaction, where `e` is a Reaction, the first of its `replies` is the id of `t`, and the From address of `e` is
+///   among From, To and Cc of `t`.
 pub fn effect_of(e: &Card, t: &Card, me: &Addr) -> Option<Effect>
     ensures value { result ≡ effect_of e.now t.now me.now }
     ensures content { IsSome result → IsTrue (is_content (kind_of t.now)) }
@@ -94,6 +98,7 @@ pub fn effect_of(e: &Card, t: &Card, me: &Addr) -> Option<Effect>
         Kind::Delete if e.from == t.from => Some(Effect::Delete),
         Kind::Edit if e.from == t.from => Some(Effect::Edit),
         Kind::Update if t.app && has_person(t, &e.from) => Some(Effect::Update),
+        Kind::Reaction if has_person(t, &e.from) => Some(Effect::Reaction),
         _ => None,
     }
 }

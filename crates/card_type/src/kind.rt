@@ -15,13 +15,15 @@ pub enum Kind {
     Edit,
     /// It brings updates to an app, and is none itself.
     Update,
+    /// It says something of the mail that it answers, as a reaction to it (RFC 9078).
+    Reaction,
     /// It is shown in a chat: any other mail.
     Content,
 }
 
 /// The kind of a card: the first that applies of Receipt (`receipt` is present), Delete (`deletes` is not
-/// empty), Edit (`edit` is present), Update (`updates` is not empty and `app` is false) and Content. Takes
-/// no memory.
+/// empty), Edit (`edit` is present), Update (`updates` is not empty and `app` is false), Reaction (`reaction`
+/// is present) and Content. Takes no memory.
 pub fn kind_of(card: &Card) -> Kind
     ensures { result ≡ kind_of card.now }
 {
@@ -33,6 +35,8 @@ pub fn kind_of(card: &Card) -> Kind
         Kind::Edit
     } else if !card.updates.is_empty() && !card.app {
         Kind::Update
+    } else if card.reaction.is_some() {
+        Kind::Reaction
     } else {
         Kind::Content
     }

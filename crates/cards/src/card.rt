@@ -1,9 +1,11 @@
 //! The card of a mail, field by field.
-use crate::shown::{add_addrs, add_counted, add_ids, add_quoted, add_some, add_value, add_word};
+use crate::shown::{
+    add_addrs, add_counted, add_ids, add_quoted, add_quoted_line, add_some, add_value, add_word,
+};
 use crate::updates::add_update;
 use card_type::{Attachment, Card, is_valid, weight};
 use chat_card::{CardFault, read_card};
-use kit::{Addr, Id, Memory};
+use kit::{Addr, Id, Memory, Text};
 use scripts::add_number;
 use std::alloc::Global;
 
@@ -90,7 +92,18 @@ fn add_parts(said: &mut Vec<u8>, alloc: Global, card: &Card) -> Result<(), Memor
     for update in card.updates.as_slice() {
         add_update(said, alloc, update)?;
     }
-    Ok(())
+    add_reaction(said, alloc, &card.reaction)
+}
+
+/// Adds a line of a reaction, also of an empty one.
+fn add_reaction(said: &mut Vec<u8>, alloc: Global, reaction: &Option<Text>) -> Result<(), Memory> {
+    match reaction {
+        Some(text) => {
+            said.extend_from_slice(b"reaction ")?;
+            add_quoted_line(said, alloc, text.bytes())
+        }
+        None => Ok(()),
+    }
 }
 
 /// Adds a line of a file: its type, its size and its name.

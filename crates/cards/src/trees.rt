@@ -21,7 +21,8 @@ pub fn add_tree(said: &mut Vec<u8>, alloc: Global, mail: &[u8]) -> Result<(), Me
     add_count(said, alloc, tree.nodes.len())
 }
 
-/// Adds a part: its type, its file name, whether it is an attachment, and the content of one that has no parts.
+/// Adds a part: its type, its file name, whether it is an attachment or a reaction, and the content of one that has no
+/// parts.
 fn add_node(said: &mut Vec<u8>, alloc: Global, body: &[u8], node: &PartNode) -> Result<(), Memory> {
     add_indent(said, node.depth)?;
     add_kind(said, &node.kind)?;
@@ -31,6 +32,9 @@ fn add_node(said: &mut Vec<u8>, alloc: Global, body: &[u8], node: &PartNode) -> 
     }
     if node.attach {
         said.extend_from_slice(b" attached")?;
+    }
+    if node.reaction {
+        said.extend_from_slice(b" reaction")?;
     }
     if node.leaf {
         add_content(said, alloc, body, node)?;

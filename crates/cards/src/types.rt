@@ -40,16 +40,17 @@ pub fn add_param(
     add_found(said, alloc, kind.param(name).map(|value| value.bytes()))
 }
 
-/// Adds what the body of a Content-Disposition field says: whether the part is an attachment, and its file name.
+/// Adds what the body of a Content-Disposition field says: whether the part is an attachment or a reaction, and its file
+/// name.
 pub fn add_disposition(said: &mut Vec<u8>, alloc: Global, body: &[u8]) -> Result<(), Memory> {
     let disposition = read_disposition(alloc, body)?;
-    add_word(
-        said,
-        if disposition.attach {
-            "attachment"
-        } else {
-            "shown"
-        },
-    )?;
+    let word = if disposition.attach {
+        "attachment"
+    } else if disposition.reaction {
+        "reaction"
+    } else {
+        "shown"
+    };
+    add_word(said, word)?;
     add_quoted_line(said, alloc, disposition.name.bytes())
 }

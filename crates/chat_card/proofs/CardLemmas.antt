@@ -1,17 +1,26 @@
 -- Lemmas on the rules that a card keeps, and on what a mail is answered.
-use Rattle.std.proofs.Common.{inr, ◌≡◌, ◌≤◌, ℕ, Bool, true, false, List, [], ◌∷◌, length, refl, ap}
-use Rattle.std.specs.Prelude.{◌&&◌, ◌==◌, ◌⊎◌, drop, IfErr, IfOk, IfSome, IsTrue, Option, Some, None, Result, Ok, Err, nat_le}
+use Rattle.std.proofs.Common.{inr, ◌≡◌, ◌≤◌, ℕ, Bool, true, false, List, [], ◌∷◌, length, refl, arith}
+use Rattle.std.specs.Prelude.{◌&&◌, ◌==◌, ◌⊎◌, drop, not, IfErr, IfOk, IfSome, IsTrue, Option, Some, None, Result, Ok, Err, nat_le}
 use Rattle.std.specs.List.{list_all}
 use Rattle.std.proofs.lemmas.Bool.{and_parts, le-leb}
+use Rattle.std.proofs.lemmas.Bool.Decides.{nat_tests}
 use Rattle.lists.specs.Distinct.{are_distinct}
 use Rattle.kit.specs.Moments.{last_moment}
 use Rattle.mail_address.specs.declared.person.Person.{Person}
 use Rattle.mail_headers.specs.Headers.{Head}
 use Rattle.card_type.specs.declared.card.Card.{Card}
 use Rattle.card_type.specs.declared.card.Update.{Update}
+use Rattle.card_type.specs.Kinds.{has_some}
 use Rattle.card_type.specs.Rules.{fits_weight, is_nonempty_update, is_short, is_update, is_utf8_update, keeps_bounds, where_some}
-use Rattle.chat_card.specs.Cards.{accepted, card_from, card_with}
-use Rattle.chat_card.specs.Envelope.{sender}
+use Rattle.chat_card.specs.Cards.{accepted, card_by, card_from, card_with}
+use Rattle.chat_card.specs.Contents.{contents_of}
+use Rattle.chat_card.specs.Envelope.{envelope_of, sender}
+use Rattle.chat_card.specs.Requests.{requests_of}
+use Rattle.chat_card.specs.Texts.{card_text}
+use Rattle.chat_card.specs.declared.contents.Contents.{Contents}
+use Rattle.chat_card.specs.declared.envelope.Envelope.{Envelope}
+use Rattle.chat_card.specs.declared.requests.Requests.{Requests}
+use Rattle.chat_card.specs.declared.text.CardText.{CardText}
 
 -- ---- the bounds of a card
 
@@ -32,9 +41,23 @@ nonempty (u ∷ us) h =
     let both = and_parts (is_update u) (list_all is_update us) h in
     rw ((and_parts (is_utf8_update u) (is_nonempty_update u) both.0).1, nonempty us both.1) refl
 
-pub bounds-kept : (c : Card) → IfSome c.date (λ d. d ≤ last_moment) → length c.text ≤ 32768 → c.reaction ≡ None → IsTrue (list_all is_update c.updates)
+pub bounds-kept : (c : Card) → IfSome c.date (λ d. d ≤ last_moment) → length c.text ≤ 32768 → IsTrue (where_some is_short c.reaction) → IsTrue (list_all is_update c.updates)
     → are_distinct c.to ≡ true → are_distinct c.cc ≡ true → keeps_bounds c ≡ fits_weight c
-bounds-kept c date room none updates to cc = kept (fits_weight c) _ _ _ _ _ _ (is_moment c.date date) (le-leb (length c.text) 32768 room) (ap (where_some is_short) none) (nonempty c.updates updates) to cc
+bounds-kept c date room short updates to cc = kept (fits_weight c) _ _ _ _ _ _ (is_moment c.date date) (le-leb (length c.text) 32768 room) short (nonempty c.updates updates) to cc
+
+-- ---- the card, put together
+
+-- a mail answers another where it names some
+pub some-named : {T : Type 0} (xs : List T) → not (length xs == 0) ≡ has_some xs
+some-named [] = refl
+some-named (x ∷ xs) = grind (arith, nat_tests)
+
+pub put-together : (uid : ℕ) (head : Head) (from : Person) (body : List ℕ) (fields : Envelope) (requests : Requests) (is_reply : Bool) (contents : Contents) (text : CardText)
+    → fields ≡ envelope_of uid head → requests ≡ requests_of head → is_reply ≡ has_some fields.replies
+    → contents ≡ contents_of is_reply requests.edit head body → text ≡ card_text requests.edit contents.text
+    → card_by from fields requests contents text ≡ card_from uid head from body
+put-together uid head from body fields requests is_reply contents text says asks answers shows tells =
+    rw (tells, shows, answers, asks, says) refl
 
 -- ---- answers
 

@@ -18,11 +18,11 @@ on_literals = tt
 
 -- a text and these parts
 abbrev contents : List (List ℕ) → Contents
-contents ps = contents_in (in_mail (multipart (codes "mixed") (codes "d") (plain ∷ ps)))
+contents ps = contents_in false None (in_mail (multipart (codes "mixed") (codes "d") (plain ∷ ps)))
 
 -- what a mail with that text has
 abbrev row : List Attachment → Bool → List Update → Contents
-row attachments app updates = record { text = codes "Hi"; attachments = attachments; receipt = None; app = app; updates = updates }
+row attachments app updates = record { text = codes "Hi"; attachments = attachments; receipt = None; app = app; updates = updates; reaction = None }
 
 abbrev chess : List ℕ
 chess = codes "Content-Type: application/webxdc+zip\nContent-Disposition: attachment; filename=\"chess.xdc\"\nContent-Transfer-Encoding: base64\n\nUEsDBA==\n"

@@ -30,14 +30,14 @@ position-map f test xs = rw (prefix_len-map f (λ x. not (test x)) xs, length-ma
 
 -- ---- the file that is to be read for updates
 
-found-none : {A : Type 0} (test : A → Bool) (xs : List A) → position test xs ≡ None → find test xs ≡ None
+pub found-none : {A : Type 0} (test : A → Bool) (xs : List A) → position test xs ≡ None → find test xs ≡ None
 found-none test xs none = decided (nat_lt (position_or_len test xs) (length xs)) refl none
   where
     decided : (t : Bool) → nat_lt (position_or_len test xs) (length xs) ≡ t → cond t (Some (position_or_len test xs)) None ≡ None → find test xs ≡ None
     decided true is some = absurd cc
     decided false is some = find_at test xs ∙ slice_get_past xs (position_or_len test xs) (ltb-false (position_or_len test xs) (length xs) is)
 
-found-index : {A : Type 0} (test : A → Bool) (xs : List A) (at : ℕ) → position test xs ≡ Some at → position_or_len test xs ≡ at
+pub found-index : {A : Type 0} (test : A → Bool) (xs : List A) (at : ℕ) → position test xs ≡ Some at → position_or_len test xs ≡ at
 found-index test xs at = decided (nat_lt (position_or_len test xs) (length xs))
   where
     decided : (t : Bool) → cond t (Some (position_or_len test xs)) None ≡ Some at → position_or_len test xs ≡ at

@@ -71,6 +71,21 @@ sent_by_oneself : card_of 1 (sent (codes "me@x.org") (codes "bob@x.org") (may_1 
 unfolding on_mails
 sent_by_oneself = refl
 
+-- ---- reactions to a mail of Bob
+
+abbrev reaction : (time id body : List ℕ) → List ℕ
+reaction time id body =
+    sent (codes "me@x.org") (codes "bob@x.org") (may_1 time) id
+    (codes "In-Reply-To: <m1@x.org>" ∷ codes "Content-Type: text/plain; charset=utf-8" ∷ codes "Content-Disposition: reaction" ∷ []) (body ∷ [])
+
+with_reaction : card_of 1 (reaction (codes "10:10:00") (codes "k1@x.org") cards.thumb) ≡ Ok cards.K1
+unfolding on_mails
+with_reaction = refl
+
+with_empty_reaction : card_of 1 (reaction (codes "10:12:00") (codes "k2@x.org") []) ≡ Ok cards.K2
+unfolding on_mails
+with_empty_reaction = refl
+
 -- ---- a group
 
 group_mail : card_of 1 (sent (codes "ann@x.org") (codes "me@x.org, bob@x.org") (may_1 (codes "09:00:00")) (codes "g1@x.org") (version ∷ codes "Chat-Group-ID: abcdefghijk" ∷ codes "Chat-Group-Name: Trip" ∷ []) (codes "Welcome" ∷ [])) ≡ Ok cards.G1

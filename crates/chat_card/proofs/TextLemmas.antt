@@ -63,11 +63,11 @@ last_boundary-is text (suc at) kept within last = ⊎_elim
     ap (λ t. cond t (suc at) (floor_char_boundary text at)) (starts _ ((subst (IsCharBoundary text) same last.1).1 within)) ∙ sym same)
     (cases_lt kept (suc at))
 
-pub prefix-is : (text : List ℕ) (kept : ℕ) → IsLastBoundary text 32768 kept → take kept text ≡ prefix text
-prefix-is text kept last = ⊎_elim
-    (λ long. rw (lt-leb (length text) 32768 long) (ap (λ n. take n text) (sym (last_boundary-is text 32768 kept long last))))
-    (λ fits. rw (le-leb (length text) 32768 fits) (take_all kept text (⊎_elim
+pub prefix-is : (limit : ℕ) (text : List ℕ) (kept : ℕ) → IsLastBoundary text limit kept → take kept text ≡ prefix limit text
+prefix-is limit text kept last = ⊎_elim
+    (λ long. rw (lt-leb (length text) limit long) (ap (λ n. take n text) (sym (last_boundary-is text limit kept long last))))
+    (λ fits. rw (le-leb (length text) limit fits) (take_all kept text (⊎_elim
     (λ short. absurd (last.2 (length text) short fits (IsCharBoundary-end text)))
     (λ all. all)
     (cases_lt kept (length text)))))
-    (cases_lt 32768 (length text))
+    (cases_lt limit (length text))

@@ -1,5 +1,6 @@
 -- The card of a mail, by the rules of its fields and its parts.
 use Rattle.std.specs.Prelude.{ℕ, ◌==◌, if◌then◌else◌, List, length, drop, Option, Some, None, Result, Ok, Err}
+use Rattle.card_type.specs.Kinds.{has_some}
 use Rattle.card_type.specs.Rules.{fits_weight}
 use Rattle.card_type.specs.declared.card.Card.{Card}
 use Rattle.mail_address.specs.declared.person.Person.{Person}
@@ -43,15 +44,16 @@ card_by from fields requests contents text =
       receipt = contents.receipt;
       app = contents.app;
       updates = contents.updates;
-      reaction = None;
+      reaction = contents.reaction;
     }
 
 -- the card of a mail that a person sent
 abbrev pub card_from : ℕ → Head → Person → List ℕ → Card
 card_from uid head from body =
+    let fields = envelope_of uid head in
     let requests = requests_of head in
-    let contents = contents_of head body in
-    card_by from (envelope_of uid head) requests contents (card_text requests.edit contents.text)
+    let contents = contents_of (has_some fields.replies) requests.edit head body in
+    card_by from fields requests contents (card_text requests.edit contents.text)
 
 -- The acceptance rule: a mail has a card if it has a field and a sender, and the card is not too heavy.
 abbrev pub accepted : Card → Result Card CardFault

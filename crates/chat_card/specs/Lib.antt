@@ -5,8 +5,9 @@ pub mod Parts
 pub mod Shown
 pub mod Files
 pub mod Receipts
-pub mod Contents
 pub mod Texts
+pub mod Reactions
+pub mod Contents
 pub mod Cards
 pub mod Leaves
 -- What only proofs and private functions use.

@@ -97,10 +97,14 @@ kept_of parts = kept (forest parts)
 
 -- ---- the text
 
--- the text of a part in its charset, without soft line breaks (RFC 3676) and without a signature
+-- the content of a part as a text in its charset (RFC 2046, section 4.1.2)
+abbrev pub decoded_text : Part → List ℕ
+decoded_text p = to_text (charset_of (param p.node.kind (codes "charset"))) p.content
+
+-- that text without soft line breaks (RFC 3676) and without a signature
 abbrev pub text_in : Part → List ℕ
 text_in p =
-    let text = to_text (charset_of (param p.node.kind (codes "charset"))) p.content in
+    let text = decoded_text p in
     user_text (if same_name (param p.node.kind (codes "format")) (codes "flowed")
     then unflow text (same_name (param p.node.kind (codes "delsp")) (codes "yes")) else text)
 

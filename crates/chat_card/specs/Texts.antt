@@ -21,9 +21,9 @@ abbrev pub unmarked : Option (List ℕ) → List ℕ → List ℕ
 unmarked None text = text
 unmarked (Some id) text = unwrap_or (strip_prefix text edit_mark) text
 
--- the longest prefix of at most 32,768 bytes that ends between two characters
-abbrev pub prefix : List ℕ → List ℕ
-prefix text = if nat_le (length text) 32768 then text else take (floor_char_boundary text 32768) text
+-- the longest prefix of at most so many bytes that ends between two characters
+abbrev pub prefix : ℕ → List ℕ → List ℕ
+prefix limit text = if nat_le (length text) limit then text else take (floor_char_boundary text limit) text
 
 -- what a mail says: the text that it shows, which in an edit begins with a mark
 abbrev pub uncut : Option (List ℕ) → List ℕ → List ℕ
@@ -33,4 +33,4 @@ uncut edit shown = unmarked edit (trimmed shown)
 abbrev pub card_text : Option (List ℕ) → List ℕ → CardText
 card_text edit shown =
     let text = uncut edit shown in
-    record { text = prefix text; cut = nat_lt (length (prefix text)) (length text) }
+    record { text = prefix 32768 text; cut = nat_lt (length (prefix 32768 text)) (length text) }

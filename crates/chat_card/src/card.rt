@@ -50,7 +50,7 @@ fn card_by(
         receipt: contents.receipt,
         app: contents.app,
         updates: contents.updates,
-        reaction: None,
+        reaction: contents.reaction,
     }
 }
 
@@ -68,7 +68,13 @@ fn card_from(
 {
     let fields = read_envelope(alloc, uid, header)?;
     let requests = read_requests(alloc, header)?;
-    let contents = read_contents(alloc, header, body)?;
+    let contents = read_contents(
+        alloc,
+        header,
+        body,
+        !fields.replies.is_empty(),
+        &requests.edit,
+    )?;
     let text = card_text(alloc, &requests.edit, &contents.text)?;
     Ok(card_by(from, fields, requests, contents, text))
 }
@@ -94,6 +100,10 @@ fn accepted(card: Card) -> Result<Card, CardFault>
 /// and Subject give (RFC 5322, section 3.6). `chat` is true where Chat-Version is present, and only then the other
 /// fields of a chat are read. The text is the one that the parts show, without white space at its end and, in an edit,
 /// one U+270F U+FE0F at its beginning, cut at the end of a character to 32,768 bytes at most.
+///
+/// A mail that answers another and has no other text is a reaction where one of its parts is text/plain, has the
+/// disposition `reaction` and no file name (RFC 9078): `reaction` is the words of the first of them with one space between
+/// each two, cut at the end of a character to 255 bytes at most, and the text and the files are those of the other parts.
 ///
 /// `NoFields` comes exactly where the header has no field, else `NoFrom` exactly where From names nobody with an
 /// address, else `CardTooLong` exactly where the weight of the card passes 1,048,576, and `Memory` only when memory

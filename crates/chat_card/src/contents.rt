@@ -2,14 +2,15 @@
 ghost use Rattle.std.specs.Prelude.{◌≡◌, [], IfOk, IsTrue, OnOk, map, unwrap_or};
 ghost use Rattle.std.specs.List.{list_all};
 ghost use Rattle.std.specs.Result.{result_ok};
-ghost use Rattle.card_type.specs.Rules.{is_update, where_some};
+ghost use Rattle.card_type.specs.Rules.{is_short, is_update, where_some};
 ghost use Rattle.part_read.specs.Updates.{updates};
-ghost use Rattle.chat_card.specs.Contents.{contents_in, contents_of};
+ghost use Rattle.chat_card.specs.Contents.{contents_of, contents_with};
 ghost use Rattle.chat_card.specs.Files.{attached, updates_in};
 
 use crate::files::{attachments, files, has_app, update_index};
 use crate::kept::kept_of;
 use crate::part::{Part, parts_of};
+use crate::reaction::take_reaction;
 use crate::report::receipt_of;
 use crate::shown::shown_text;
 use card_type::{Attachment, Update};
@@ -32,6 +33,8 @@ pub struct Contents {
     pub app: bool,
     /// The updates that it brings to an app, in their order.
     pub updates: Items<Update>,
+    /// What it says of the mail that it answers, where it is a reaction to it (RFC 9078): at most 255 bytes.
+    pub reaction: Option<Text>,
 }
 
 /// The updates in a file, if they are accepted.
@@ -62,8 +65,13 @@ fn take_updates(alloc: Global, files: &mut Vec<&Part<'_>>) -> Result<Items<Updat
     Ok(updates)
 }
 
-fn contents_in(alloc: Global, parts: &[Part]) -> Result<Contents, Memory>
-    ensures value { IfOk result (λ contents. contents ≡ contents_in parts.now) }
+fn contents_with(
+    alloc: Global,
+    parts: &[Part],
+    receipt: Option<Id>,
+    reaction: Option<Text>,
+) -> Result<Contents, Memory>
+    ensures value { IfOk result (λ contents. contents ≡ contents_with receipt reaction parts.now) }
     ensures updates { IfOk result (λ contents. IsTrue (list_all is_update contents.updates)) }
 {
     let kept = kept_of(alloc, parts)?;
@@ -73,14 +81,15 @@ fn contents_in(alloc: Global, parts: &[Part]) -> Result<Contents, Memory>
     Ok(Contents {
         text: shown_text(alloc, &kept)?,
         attachments: attachments(alloc, &files)?,
-        receipt: receipt_of(alloc, parts)?,
+        receipt,
         app,
         updates,
+        reaction,
     })
 }
 
-/// Reads what the parts of a mail of this header and the body after it say. Any bytes are a body. Takes memory; `Err`
-/// only when it runs out.
+/// Reads what the parts of a mail of this header and the body after it say, where the mail answers another or none and
+/// edits another or none. Any bytes are a body. Takes memory; `Err` only when it runs out.
 ///
 /// A leaf that is text/plain, has no file name and whose disposition is not that of an attachment (RFC 2183) is shown
 /// as a text, and any other is a file. Of alternatives the first that shows a text is chosen (RFC 2046, section 5.1.4),
@@ -90,10 +99,23 @@ fn contents_in(alloc: Global, parts: &[Part]) -> Result<Contents, Memory>
 /// The receipt is that of the first notification in a report that the mail itself is (RFC 3798, section 3). A file is
 /// an app where its name ends in `.xdc`, without the case of letters. Where none is, the first file that is named
 /// `status-update.json` is read for updates, and is no file of the mail where it is accepted.
-pub fn read_contents(alloc: Global, header: &Header, body: &[u8]) -> Result<Contents, Memory>
-    ensures value { IfOk result (λ contents. contents ≡ contents_of header.now body.now) }
+///
+/// In a mail that answers another the first text whose disposition is that of a reaction (RFC 9078) is what the mail says
+/// to it, where the mail has no other text: then it is none of the parts that are shown.
+pub fn read_contents(
+    alloc: Global,
+    header: &Header,
+    body: &[u8],
+    is_reply: bool,
+    edit: &Option<Id>,
+) -> Result<Contents, Memory>
+    ensures value { IfOk result (λ contents. contents ≡ contents_of is_reply edit.now header.now body.now) }
     // They keep the rules of a card.
     ensures updates { IfOk result (λ contents. IsTrue (list_all is_update contents.updates)) }
+    ensures reaction { IfOk result (λ contents. IsTrue (where_some is_short contents.reaction)) }
 {
-    contents_in(alloc, &parts_of(alloc, header, body)?)
+    let mut parts = parts_of(alloc, header, body)?;
+    let receipt = receipt_of(alloc, &parts)?;
+    let reaction = take_reaction(alloc, &mut parts, is_reply, edit)?;
+    contents_with(alloc, &parts, receipt, reaction)
 }

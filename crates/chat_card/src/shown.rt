@@ -1,7 +1,7 @@
 //! The text that a mail shows.
 ghost use Rattle.std.specs.Prelude.{◌≡◌, IfOk, map};
 ghost use Rattle.std.specs.List.{filter_map, join_with_byte};
-ghost use Rattle.chat_card.specs.Shown.{text_in, text_of};
+ghost use Rattle.chat_card.specs.Shown.{decoded_text, text_in, text_of};
 ghost use Rattle.chat_card.specs.Views.{kept};
 
 use crate::leaf::Kept;
@@ -10,13 +10,20 @@ use flowed_text::{push_line, unflow, user_text};
 use kit::{Memory, Text, charset_of, same_name, to_text};
 use std::alloc::Global;
 
-/// The text of a part in its charset, without soft line breaks (RFC 3676) and without a signature.
+/// The content of a part as a text in its charset (RFC 2046, section 4.1.2).
+pub fn decoded_text(alloc: Global, part: &Part) -> Result<Text, Memory>
+    ensures { IfOk result (λ text. text ≡ decoded_text part.now) }
+{
+    let charset = charset_of(param(&part.node.kind, b"charset"));
+    to_text(alloc, charset, &part.content(alloc)?)
+}
+
+/// That text without soft line breaks (RFC 3676) and without a signature.
 fn text_in(alloc: Global, part: &Part) -> Result<Text, Memory>
     ensures { IfOk result (λ text. text ≡ text_in part.now) }
 {
+    let text = decoded_text(alloc, part)?;
     let kind = &part.node.kind;
-    let charset = charset_of(param(kind, b"charset"));
-    let text = to_text(alloc, charset, &part.content(alloc)?)?;
     if same_name(param(kind, b"format"), b"flowed") {
         let delsp = same_name(param(kind, b"delsp"), b"yes");
         return user_text(alloc, &unflow(alloc, &text, delsp)?);

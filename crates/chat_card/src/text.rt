@@ -36,13 +36,13 @@ fn unmarked<'a>(edit: &Option<Id>, text: &'a str) -> &'a str
     }
 }
 
-/// The longest prefix of a text that a card has room for and that ends between two characters.
-fn prefix(text: &str) -> &str
-    ensures value { result.now ≡ prefix text.now }
-    ensures room { length result.now ≤ 32768 }
-    ensures longest { (at : ℕ) → at ≤ 32768 → IsCharBoundary text.now at → at ≤ length result.now }
+/// The longest prefix of a text that has at most so many bytes and ends between two characters.
+pub fn prefix(text: &str, limit: usize) -> &str
+    ensures value { result.now ≡ prefix limit text.now }
+    ensures room { length result.now ≤ limit }
+    ensures longest { (at : ℕ) → at ≤ limit → IsCharBoundary text.now at → at ≤ length result.now }
 {
-    &text[..text.floor_char_boundary(MAX_TEXT_LEN)]
+    &text[..text.floor_char_boundary(limit)]
 }
 
 /// The text of a card.
@@ -60,7 +60,7 @@ pub fn card_text(alloc: Global, edit: &Option<Id>, shown: &Text) -> Result<CardT
     ensures room { IfOk result (λ text. length text.text ≤ 32768) }
 {
     let text = unmarked(edit, trimmed(shown.as_str()));
-    let kept = prefix(text);
+    let kept = prefix(text, MAX_TEXT_LEN);
     Ok(CardText {
         text: Text::from(String::from_str(alloc, kept)?),
         cut: kept.len() < text.len(),

@@ -2,14 +2,14 @@
 ghost use Rattle.std.specs.Prelude.{◌≡◌, [], ◌++◌, All, IfOk, OnOk, codes, flat_map, string_bytes};
 ghost use Rattle.std.specs.List.{join_by};
 ghost use Rattle.mailbox_model.specs.Bodies.{body};
-ghost use Rattle.mailbox_model.specs.Printed.{field, file_line, mark_text, or_dash, reader_line, row_line, row_text, chat_text};
+ghost use Rattle.mailbox_model.specs.Printed.{field, file_line, mark_text, or_dash, reaction_line, reader_line, row_line, row_text, chat_text};
 ghost use Rattle.chat_print.specs.Moments.{ChatHasMoments, IsMoment, ReaderHasMoment, RowHasMoments};
 
 use crate::fields::{push_addr, push_field};
 use crate::times::push_time;
 use card_type::Attachment;
 use chat_view::body_of;
-use kit::{Addr, Memory};
+use kit::{Addr, Memory, Text};
 use mailbox_model::{ChatPage, Mark, Row};
 use std::alloc::Global;
 
@@ -98,7 +98,29 @@ fn push_readers(text: &mut String, readers: &[(Addr, u64)]) -> Result<(), Memory
     Ok(())
 }
 
-/// Appends the lines of a row: the row itself, its files, its readers, and how many updates its app has.
+/// Appends the line of a reaction.
+fn push_reaction(text: &mut String, reaction: &(Addr, Text)) -> Result<(), Memory>
+    ensures { OnOk result (string_bytes text.new ≡ string_bytes text.old ++ reaction_line reaction.now) }
+{
+    text.push_str("  reaction ")?;
+    push_addr(text, &reaction.0)?;
+    text.push(' ')?;
+    push_field(text, reaction.1.as_str())?;
+    text.push('\n')?;
+    Ok(())
+}
+
+/// Appends the lines of the reactions to a row.
+fn push_reactions(text: &mut String, reactions: &[(Addr, Text)]) -> Result<(), Memory>
+    ensures { OnOk result (string_bytes text.new ≡ string_bytes text.old ++ flat_map reaction_line reactions.now) }
+{
+    for reaction in reactions {
+        push_reaction(text, reaction)?;
+    }
+    Ok(())
+}
+
+/// Appends the lines of a row: the row itself, its files, its readers, its reactions, and how many updates its app has.
 fn push_row(alloc: Global, text: &mut String, row: &Row) -> Result<(), Memory>
     requires { RowHasMoments row.now }
     ensures { OnOk result (string_bytes text.new ≡ string_bytes text.old ++ row_text row.now) }
@@ -106,6 +128,7 @@ fn push_row(alloc: Global, text: &mut String, row: &Row) -> Result<(), Memory>
     push_row_line(alloc, text, row)?;
     push_files(text, row.attachments.as_slice())?;
     push_readers(text, row.readers.as_slice())?;
+    push_reactions(text, row.reactions.as_slice())?;
     if row.app {
         write!(text, "  updates {}\n", row.updates.len())?;
     }

@@ -1,6 +1,6 @@
 -- What a maker keeps after one more card that acts.
 use Rattle.std.proofs.Common.{◌≡◌, refl, sym, ap, ◌∙◌, subst, ℕ, Bool, true, false, cond, Option, Some, List, [], ◌∷◌, ◌++◌, map, append-nil, arith}
-use Rattle.std.specs.Prelude.{filter, is_some}
+use Rattle.std.specs.Prelude.{filter, if◌then◌else◌, is_some, not}
 use Rattle.std.specs.List.{list_any}
 use Rattle.std.specs.Str.{bytes_eq}
 use Rattle.std.specs.Cmp.Lexicographic.{bytes_decides}
@@ -16,7 +16,8 @@ use Rattle.mailbox_model.specs.declared.row.Row.{Row}
 use Rattle.mailbox_model.specs.declared.row.UpdateRow.{UpdateRow}
 use Rattle.mailbox_model.specs.Lists.{Bytes, last_of}
 use Rattle.mailbox_model.specs.Present.{Placed, Mail}
-use Rattle.mailbox_model.specs.Rows.{Act, acting_by, is_effect, mark_of, readers_by, same_sender, text_card, updates_by}
+use Rattle.mailbox_model.specs.Rows.{Act, acting_by, is_effect, mark_of, reaction_of, reactions_by, readers_by, same_sender, text_card, updates_by}
+use Rattle.mailbox_model.proofs.ReactionLaws.{reactions_more}
 use Rattle.chat_view.specs.declared.maker.RowMaker.{RowMaker}
 use Rattle.chat_view.specs.Makers.{MakesRow}
 use Rattle.chat_view.proofs.States.{last_of_more}
@@ -47,9 +48,9 @@ readers_more receipts e =
 
 -- ---- one more act
 
--- what is shown of a mail by its last edit, its receipts and its updates
-abbrev row_with : Bytes → Mail → Option Placed → List (Bytes × ℕ) → List UpdateRow → Row
-row_with me t edit readers updates =
+-- what is shown of a mail by its last edit, its receipts, its reactions and its updates
+abbrev row_with : Bytes → Mail → Option Placed → List (Bytes × ℕ) → List (Bytes × Bytes) → List UpdateRow → Row
+row_with me t edit readers reactions updates =
     let card = t.placed.card in
     record {
       uid = t.placed.uid;
@@ -64,6 +65,7 @@ row_with me t edit readers updates =
       mark = mark_of me t;
       attachments = card.attachments;
       readers = readers;
+      reactions = reactions;
       app = card.app;
       updates = updates;
     }
@@ -95,10 +97,11 @@ module _ (acts : List Act) (p : Placed) where
     edit_makes row is =
         let edit : last_of (acting_by effects.Edit (more effects.Edit)) ≡ Some p = ap last_of (acting_more effects.Edit effects.Edit) ∙ last_of_more (acting_by effects.Edit acts) p in
         let receipts = acting_other effects.Read effects.Edit refl in
+        let reactions = acting_other effects.Reaction effects.Edit refl in
         let updates = acting_other effects.Update effects.Edit refl in
         record {
           row = is ∙ ap {A = Row} {B = Row} (λ r. record r { text = p.card.text; cut = p.card.cut; edited = true }) stands.row
-              ∙ sym (λ i. row_with me t (edit i) (readers_by (receipts i)) (updates_by (updates i)));
+              ∙ sym (λ i. row_with me t (edit i) (readers_by (receipts i)) (reactions_by (reactions i)) (updates_by (updates i)));
           withdrawn = stands.withdrawn ∙ ap has_some (sym (acting_other effects.Delete effects.Edit refl));
           expiry = stands.expiry;
         }
@@ -107,9 +110,10 @@ module _ (acts : List Act) (p : Placed) where
     delete_makes =
         let edits = acting_other effects.Edit effects.Delete refl in
         let receipts = acting_other effects.Read effects.Delete refl in
+        let reactions = acting_other effects.Reaction effects.Delete refl in
         let updates = acting_other effects.Update effects.Delete refl in
         record {
-          row = stands.row ∙ sym (λ i. row_with me t (last_of (edits i)) (readers_by (receipts i)) (updates_by (updates i)));
+          row = stands.row ∙ sym (λ i. row_with me t (last_of (edits i)) (readers_by (receipts i)) (reactions_by (reactions i)) (updates_by (updates i)));
           withdrawn = sym (ap has_some (acting_more effects.Delete effects.Delete) ∙ some_more (acting_by effects.Delete acts) p);
           expiry = stands.expiry;
         }
@@ -119,6 +123,7 @@ module _ (acts : List Act) (p : Placed) where
         → MakesRow me t (more effects.Read) (record { row = record maker.row { readers = readers }; withdrawn = maker.withdrawn; expiry = maker.expiry })
     read_makes readers is =
         let edits = acting_other effects.Edit effects.Read refl in
+        let reactions = acting_other effects.Reaction effects.Read refl in
         let updates = acting_other effects.Update effects.Read refl in
         let known : maker.row.readers ≡ readers_by (acting_by effects.Read acts) = ap (λ r. r.readers) stands.row in
         let all : readers_by (acting_by effects.Read (more effects.Read)) ≡ readers = sym (
@@ -126,7 +131,7 @@ module _ (acts : List Act) (p : Placed) where
         ∙ readers_more (acting_by effects.Read acts) p ∙ ap readers_by (sym (acting_more effects.Read effects.Read))) in
         record {
           row = ap {A = Row} {B = Row} (λ r. record r { readers = readers }) stands.row
-              ∙ sym (λ i. row_with me t (last_of (edits i)) (all i) (updates_by (updates i)));
+              ∙ sym (λ i. row_with me t (last_of (edits i)) (all i) (reactions_by (reactions i)) (updates_by (updates i)));
           withdrawn = stands.withdrawn ∙ ap has_some (sym (acting_other effects.Delete effects.Read refl));
           expiry = stands.expiry;
         }
@@ -137,11 +142,31 @@ module _ (acts : List Act) (p : Placed) where
     update_makes updates is =
         let edits = acting_other effects.Edit effects.Update refl in
         let receipts = acting_other effects.Read effects.Update refl in
+        let reactions = acting_other effects.Reaction effects.Update refl in
         let all : updates_by (acting_by effects.Update (more effects.Update)) ≡ updates = sym (
         is (acting_by effects.Update acts) (ap (λ r. r.updates) stands.row) ∙ ap updates_by (sym (acting_more effects.Update effects.Update))) in
         record {
           row = ap {A = Row} {B = Row} (λ r. record r { updates = updates }) stands.row
-              ∙ sym (λ i. row_with me t (last_of (edits i)) (readers_by (receipts i)) (all i));
+              ∙ sym (λ i. row_with me t (last_of (edits i)) (readers_by (receipts i)) (reactions_by (reactions i)) (all i));
           withdrawn = stands.withdrawn ∙ ap has_some (sym (acting_other effects.Delete effects.Update refl));
+          expiry = stands.expiry;
+        }
+
+    pub reaction_makes : (reactions : List (Bytes × Bytes))
+        → reactions ≡ filter (λ r. not (bytes_eq p.card.from r.0)) maker.row.reactions
+        ++ (if has_some (reaction_of p.card) then (p.card.from, reaction_of p.card) ∷ [] else [])
+        → MakesRow me t (more effects.Reaction) (record { row = record maker.row { reactions = reactions }; withdrawn = maker.withdrawn; expiry = maker.expiry })
+    reaction_makes reactions is =
+        let edits = acting_other effects.Edit effects.Reaction refl in
+        let receipts = acting_other effects.Read effects.Reaction refl in
+        let updates = acting_other effects.Update effects.Reaction refl in
+        let known : maker.row.reactions ≡ reactions_by (acting_by effects.Reaction acts) = ap (λ r. r.reactions) stands.row in
+        let all : reactions_by (acting_by effects.Reaction (more effects.Reaction)) ≡ reactions = sym (
+        is ∙ ap (λ rs. filter (λ r. not (bytes_eq p.card.from r.0)) rs ++ (if has_some (reaction_of p.card) then (p.card.from, reaction_of p.card) ∷ [] else [])) known
+        ∙ sym (reactions_more (acting_by effects.Reaction acts) p) ∙ ap reactions_by (sym (acting_more effects.Reaction effects.Reaction))) in
+        record {
+          row = ap {A = Row} {B = Row} (λ r. record r { reactions = reactions }) stands.row
+              ∙ sym (λ i. row_with me t (last_of (edits i)) (readers_by (receipts i)) (all i) (updates_by (updates i)));
+          withdrawn = stands.withdrawn ∙ ap has_some (sym (acting_other effects.Delete effects.Reaction refl));
           expiry = stands.expiry;
         }

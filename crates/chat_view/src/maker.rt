@@ -1,15 +1,16 @@
 //! The row of a card, made while what acts on it is added.
-ghost use Rattle.std.specs.Prelude.{◌≡◌, ◌≤◌, ◌<◌, ◌+◌, [], ◌∷◌, ◌++◌, List, Option, Some, IfOk, OnOk, IfSome, length, true, suc, if◌then◌else◌};
+ghost use Rattle.std.specs.Prelude.{◌≡◌, ◌≤◌, ◌<◌, ◌+◌, [], ◌∷◌, ◌++◌, List, Option, Some, IfOk, OnOk, IfSome, filter, length, not, true, suc, if◌then◌else◌};
 ghost use Rattle.std.specs.List.{list_any};
 ghost use Rattle.std.specs.Str.{bytes_eq};
 ghost use Rattle.kit.specs.Moments.{last_moment};
+ghost use Rattle.card_type.specs.Kinds.{has_some};
 ghost use Rattle.mailbox_model.specs.Lists.{Bytes};
 ghost use Rattle.mailbox_model.specs.Present.{Mail, Placed};
-ghost use Rattle.mailbox_model.specs.Rows.{Act, expiry, mark_of, row_by, update_row, updates_by};
+ghost use Rattle.mailbox_model.specs.Rows.{Act, expiry, mark_of, reaction_of, row_by, update_row, updates_by};
 ghost use Rattle.chat_view.specs.Makers.{MakesRow, act, mail, placed};
 
 use card_type::{Card, Effect, Spot, Update};
-use kit::{Addr, Memory};
+use kit::{Addr, Memory, Text};
 use lists::Items;
 use mailbox_model::{Mark, Row, UpdateRow};
 use std::alloc::Global;
@@ -82,6 +83,33 @@ fn add_reader(readers: &mut Items<(Addr, u64)>, spot: &Spot, e: &Card) -> Result
     Ok(())
 }
 
+/// Takes out the reaction of a sender, if there is one.
+fn take_back(reactions: &mut Items<(Addr, Text)>, from: &Addr)
+    ensures { reactions.new ≡ filter (λ reaction. not (bytes_eq from.now reaction.0)) reactions.old }
+{
+    reactions.retain(|reaction| *from != reaction.0);
+}
+
+/// Adds a reaction, unless it says nothing.
+fn push_reaction(reactions: &mut Items<(Addr, Text)>, e: &Card) -> Result<(), Memory>
+    ensures { OnOk result (reactions.new ≡ reactions.old
+        ++ (if has_some (reaction_of e.now) then (e.now.from, reaction_of e.now) ∷ [] else [])) }
+{
+    match &e.reaction {
+        Some(text) if !text.bytes().is_empty() => reactions.push((e.from.copy()?, text.copy()?)),
+        _ => Ok(()),
+    }
+}
+
+/// Puts a reaction in place of the earlier one of its sender; one that says nothing takes that back.
+fn add_reaction(reactions: &mut Items<(Addr, Text)>, e: &Card) -> Result<(), Memory>
+    ensures { OnOk result (reactions.new ≡ filter (λ reaction. not (bytes_eq e.now.from reaction.0)) reactions.old
+        ++ (if has_some (reaction_of e.now) then (e.now.from, reaction_of e.now) ∷ [] else [])) }
+{
+    take_back(reactions, &e.from);
+    push_reaction(reactions, e)
+}
+
 /// Adds an update with the next serial.
 fn add_update(
     updates: &mut Items<UpdateRow>,
@@ -149,6 +177,7 @@ impl RowMaker {
             mark: mark_of(card, seen, me),
             attachments: card.attachments.copy()?,
             readers: Items::new(alloc),
+            reactions: Items::new(alloc),
             app: card.app,
             updates: Items::new(alloc),
         };
@@ -178,6 +207,7 @@ impl RowMaker {
             }
             Effect::Read => add_reader(&mut self.row.readers, spot, e),
             Effect::Update => add_updates(&mut self.row.updates, spot, e),
+            Effect::Reaction => add_reaction(&mut self.row.reactions, e),
         }
     }
 

@@ -57,7 +57,7 @@ pub fn names(card: &Card) -> &[Id]
         Kind::Receipt => slice_of(&card.receipt),
         Kind::Delete => card.deletes.as_slice(),
         Kind::Edit => slice_of(&card.edit),
-        Kind::Update => first_of(card.replies.as_slice()),
+        Kind::Update | Kind::Reaction => first_of(card.replies.as_slice()),
         Kind::Content => &[],
     }
 }

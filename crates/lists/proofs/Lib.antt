@@ -6,6 +6,7 @@ pub mod DistinctLaws
 pub mod Elements
 pub mod Inserts
 pub mod Joined
+pub mod Lasts
 pub mod Maps
 pub mod OneMore
 pub mod Rising

@@ -1,6 +1,8 @@
 //! Lists that contracts see as plain lists.
 ghost use Rattle.std.specs.Prelude.{◌≡◌, ◌==◌, List, [], ◌∷◌, ◌++◌, ◌≤◌, length, take, drop, IfOk, OnOk, OnErr, slice_set};
+ghost use Rattle.std.specs.Fn.{CalledAt};
 ghost use Rattle.std.specs.List.{insert, remove};
+ghost use Rattle.std.specs.List.Retain.{IsFiltered};
 ghost use Rattle.std.specs.Cmp.Lexicographic.{pointwise, lists_per, lists_equiv};
 ghost use Rattle.std.proofs.Common.{rules};
 
@@ -111,6 +113,14 @@ impl<T: Drop> Items<T> {
         if index < self.values.len() {
             let _removed = self.values.remove(index);
         }
+    }
+
+    /// Keeps the values that pass a test, in their order. Takes no memory.
+    pub fn retain<F: FnMut(&T) -> bool>(&mut self, test: F)
+        requires { F.IsAlwaysCallable test }
+        ensures { IsFiltered (CalledAt F.FnMut) test self.old self.new }
+    {
+        self.values.retain(test);
     }
 
     /// Takes out the values from an index on. Takes memory for them; `Err` only when it runs out, and then the values are

@@ -11,6 +11,7 @@ pub mod ActLaws
 pub mod CountLaws
 pub mod PeopleLaws
 pub mod UpdateLaws
+pub mod ReactionLaws
 pub mod MemberLaws
 pub mod PresentLaws
 pub mod ListLaws

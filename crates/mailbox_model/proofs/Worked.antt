@@ -20,7 +20,7 @@ use Rattle.mailbox_model.specs.Turns.{turn}
 use Rattle.mailbox_model.specs.Times.{time_text, civil_date, span_and_rest}
 use Rattle.mailbox_model.specs.Answers.{answer}
 use Rattle.mailbox_model.specs.Answers.Question.{AllChats, OneChat, AllContacts, AllUpdates, InfoUpdates}
-use Rattle.card_type.proofs.WorkedCards.{me, at, bob, ann, trip, M1, M2, E1, E2, X1, X2, T1, F2, O1, N1, N2, G0, G1, G2, G3, G4, G5, R1, R2, R3, A1, U1, U2, U3, H1, H2, H3, C1}
+use Rattle.card_type.proofs.WorkedCards.{me, at, bob, ann, trip, M1, M2, E1, E2, X1, X2, T1, F2, K1, K2, thumb, O1, N1, N2, G0, G1, G2, G3, G4, G5, R1, R2, R3, A1, U1, U2, U3, H1, H2, H3, C1}
 
 abbrev pub box : List Change → Mailbox
 box changes = after_all (empty_mailbox me) changes
@@ -73,6 +73,69 @@ stranger_edits_and_deletes : answer (box (noon ∷ Arrive M1 ∷ Arrive X1 ∷ A
     ≡ Some (codes "single:bob@x.org | Bob | fresh 1 | 2024-05-01 10:00 | Hi\n")
 unfolding time_text civil_date span_and_rest digits chars encode
 stranger_edits_and_deletes = refl
+
+-- a reaction counts whenever it came
+reaction_before_original : answer (box (noon ∷ Arrive K1 ∷ Arrive M1 ∷ [])) (OneChat (Single bob))
+    ≡ Some (
+    codes "chat single:bob@x.org\n"
+    ++ codes "name Bob\n"
+    ++ codes "members me@x.org, bob@x.org\n"
+    ++ codes "timer 0\n"
+    ++ codes "#2 2024-05-01 10:00 bob@x.org new: Hi\n"
+    ++ codes "  reaction me@x.org " ++ thumb ++ codes "\n"
+    )
+unfolding time_text civil_date span_and_rest digits chars encode
+reaction_before_original = refl
+
+-- the last one of a sender counts, in mail order
+reaction_taken_back : answer (box (noon ∷ Arrive K2 ∷ Arrive K1 ∷ Arrive M1 ∷ [])) (OneChat (Single bob))
+    ≡ Some (
+    codes "chat single:bob@x.org\n"
+    ++ codes "name Bob\n"
+    ++ codes "members me@x.org, bob@x.org\n"
+    ++ codes "timer 0\n"
+    ++ codes "#3 2024-05-01 10:00 bob@x.org new: Hi\n"
+    )
+unfolding time_text civil_date span_and_rest digits chars encode
+reaction_taken_back = refl
+
+reaction_by_stranger : answer (box (noon ∷ Arrive M1 ∷ Arrive (record K1 { from = codes "eve@x.org" }) ∷ [])) (OneChat (Single bob))
+    ≡ Some (
+    codes "chat single:bob@x.org\n"
+    ++ codes "name Bob\n"
+    ++ codes "members me@x.org, bob@x.org\n"
+    ++ codes "timer 0\n"
+    ++ codes "#1 2024-05-01 10:00 bob@x.org new: Hi\n"
+    )
+unfolding time_text civil_date span_and_rest digits chars encode
+reaction_by_stranger = refl
+
+-- once the last one is expunged the one before it counts again
+reaction_expunged : answer (box (noon ∷ Arrive M1 ∷ Arrive K1 ∷ Arrive K2 ∷ Expunge 3 ∷ [])) (OneChat (Single bob))
+    ≡ Some (
+    codes "chat single:bob@x.org\n"
+    ++ codes "name Bob\n"
+    ++ codes "members me@x.org, bob@x.org\n"
+    ++ codes "timer 0\n"
+    ++ codes "#1 2024-05-01 10:00 bob@x.org new: Hi\n"
+    ++ codes "  reaction me@x.org " ++ thumb ++ codes "\n"
+    )
+unfolding time_text civil_date span_and_rest digits chars encode
+reaction_expunged = refl
+
+-- in the order of those that count
+reactions_in_mail_order : answer (box (noon ∷ Arrive M1 ∷ Arrive K1 ∷ Arrive (record K1 { id = codes "k3@x.org"; from = bob; date = Some (at 10 11); reaction = Some (codes "ok") }) ∷ Arrive (record K2 { reaction = Some (codes "no") }) ∷ [])) (OneChat (Single bob))
+    ≡ Some (
+    codes "chat single:bob@x.org\n"
+    ++ codes "name Bob\n"
+    ++ codes "members me@x.org, bob@x.org\n"
+    ++ codes "timer 0\n"
+    ++ codes "#1 2024-05-01 10:00 bob@x.org new: Hi\n"
+    ++ codes "  reaction bob@x.org ok\n"
+    ++ codes "  reaction me@x.org no\n"
+    )
+unfolding time_text civil_date span_and_rest digits chars encode
+reactions_in_mail_order = refl
 
 members_come_and_go : answer (box (noon ∷ Arrive G1 ∷ Arrive G2 ∷ Arrive G3 ∷ [])) (OneChat (Group trip))
     ≡ Some (

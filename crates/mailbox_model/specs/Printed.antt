@@ -78,9 +78,12 @@ file_line a = codes "  file " ++ field a.kind ++ codes " " ++ decimal a.size ++ 
 abbrev pub reader_line : Bytes × ℕ → Bytes
 reader_line reader = codes "  read by " ++ field reader.0 ++ codes " " ++ time_text reader.1 ++ codes "\n"
 
+abbrev pub reaction_line : Bytes × Bytes → Bytes
+reaction_line reaction = codes "  reaction " ++ field reaction.0 ++ codes " " ++ field reaction.1 ++ codes "\n"
+
 abbrev pub row_text : Row → Bytes
 row_text r =
-    row_line r ++ flat_map file_line r.attachments ++ flat_map reader_line r.readers
+    row_line r ++ flat_map file_line r.attachments ++ flat_map reader_line r.readers ++ flat_map reaction_line r.reactions
     ++ where_true r.app (codes "  updates " ++ decimal (length r.updates) ++ codes "\n")
 
 abbrev pub chat_text : ChatPage → Bytes

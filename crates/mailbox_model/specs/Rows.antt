@@ -1,9 +1,9 @@
 -- A card of kind Content as it is shown.
-use Rattle.std.specs.Prelude.{ℕ, ◌+◌, Bool, true, false, ◌&&◌, ◌||◌, ◌==◌, nat_lt, nat_le, if◌then◌else◌, Option, Some, None, is_some, option_map, List, map, filter, filter_map, flat_map}
+use Rattle.std.specs.Prelude.{ℕ, ◌+◌, Bool, true, false, ◌&&◌, ◌||◌, ◌==◌, nat_lt, nat_le, if◌then◌else◌, Option, Some, None, is_some, option_map, unwrap_or, List, [], map, filter, filter_map, flat_map}
 use Rattle.std.specs.List.{enumerate_from}
 use Rattle.std.specs.Option.{option_map_or}
 use Rattle.std.specs.Str.{bytes_eq}
-use Rattle.lists.specs.Distinct.{firsts}
+use Rattle.lists.specs.Distinct.{firsts, lasts}
 use Rattle.card_type.specs.declared.card.Card.{Card}
 use Rattle.card_type.specs.declared.card.Update.{Update}
 use Rattle.card_type.specs.declared.effect.Effect.{Effect}
@@ -25,6 +25,7 @@ is_effect effects.Edit effects.Edit = true
 is_effect effects.Delete effects.Delete = true
 is_effect effects.Read effects.Read = true
 is_effect effects.Update effects.Update = true
+is_effect effects.Reaction effects.Reaction = true
 is_effect x y = false
 
 -- what a card does
@@ -84,6 +85,19 @@ same_sender a b = bytes_eq a.card.from b.card.from
 abbrev pub readers_by : List Placed → List (Bytes × ℕ)
 readers_by receipts = map (λ e. (e.card.from, e.date)) (firsts same_sender receipts)
 
+-- what a card says as a reaction
+abbrev pub reaction_of : Card → Bytes
+reaction_of c = unwrap_or c.reaction []
+
+-- who reacts to it, and how: of each sender the last reaction counts, and one that says nothing takes back what was said
+abbrev pub reactions_by : List Placed → List (Bytes × Bytes)
+reactions_by es =
+    map (λ e. (e.card.from, reaction_of e.card)) (filter (λ e. has_some (reaction_of e.card)) (lasts same_sender es))
+
+-- whether two reactions are of one sender
+abbrev pub same_reactor : Bytes × Bytes → Bytes × Bytes → Bool
+same_reactor a b = bytes_eq a.0 b.0
+
 -- an update, with the card that brings it and its index among those of that card
 pub record Brought : Type 0 where
   pub by : Placed
@@ -122,6 +136,7 @@ shown_by me t acts =
       mark = mark_of me t;
       attachments = card.attachments;
       readers = readers_by (acting_by effects.Read acts);
+      reactions = reactions_by (acting_by effects.Reaction acts);
       app = card.app;
       updates = updates_by (acting_by effects.Update acts);
     }

@@ -1,7 +1,7 @@
 //! Laws of the definition of a mailbox and its pages. Each is the contract of a function that does nothing: its
 //! clauses speak of every mailbox and every change.
-ghost use Rattle.std.specs.Prelude.{◌≡◌, ◌↔◌, ◌⊎◌, ◌<◌, ◌≤◌, ℕ, pos, false, true, Some, None, List, [], ◌∷◌, ◌++◌, length, map, find, filter_map, option_and_then, option_map, is_some, if◌then◌else◌, sum_by, IfSome, max};
-ghost use Rattle.std.specs.List.{AllByRecursion, count_by, list_any, IsDistinct, range_with_len};
+ghost use Rattle.std.specs.Prelude.{◌≡◌, ◌↔◌, ◌⊎◌, ◌<◌, ◌≤◌, ℕ, pos, false, true, Some, None, List, [], ◌∷◌, ◌++◌, length, map, find, filter_map, option_and_then, option_map, is_some, if◌then◌else◌, filter, not, sum_by, IfSome, max};
+ghost use Rattle.std.specs.List.{AllByRecursion, count_by, list_all, list_any, IsDistinct, range_with_len};
 ghost use Rattle.std.specs.List.Sorted.{IsStrictlySortedBy, IsPermutation};
 ghost use Rattle.std.specs.Ordering.{eq_by_cmp};
 ghost use Rattle.std.specs.Result.{result_ok};
@@ -20,7 +20,7 @@ ghost use Rattle.mailbox_model.specs.Mailbox.{Mailbox, Entry, entry_of, item_of,
 ghost use Rattle.mailbox_model.specs.Present.{Placed, Mail, mail_of, mail_at, mail_cmp, mails, has_id, same_id, same_uid, present, present_cards, contents};
 ghost use Rattle.mailbox_model.specs.Turns.{turn, with_mail, IsTurn};
 ghost use Rattle.mailbox_model.specs.Chats.{people, cites, chat, chat_among, chat_from, chat_mails, is_id_among, parent_among, DistinctIds, KeepRule};
-ghost use Rattle.mailbox_model.specs.Rows.{acting, acts_on, naming, expiry, is_expired, row, same_part, shown_by};
+ghost use Rattle.mailbox_model.specs.Rows.{acting, acts_on, naming, expiry, is_expired, reaction_of, reactions_by, row, same_part, same_reactor, shown_by};
 ghost use Rattle.mailbox_model.specs.Rosters.{roster};
 ghost use Rattle.mailbox_model.specs.Names.{name};
 ghost use Rattle.mailbox_model.specs.Pages.{keys, page};
@@ -152,6 +152,9 @@ pub fn chats_keep_the_rule()
 /// - `named`: of any cards only those that name a card act on it.
 /// - `serials`: the serials of its updates are 1, 2, 3 and so on.
 /// - `parts`: no two of its updates are one place in one mail.
+/// - `reactors`, `reactions`: no two of its reactions are of one sender, and each says something.
+/// - `last_reaction`: where one reacts after all others in mail order, that takes the place of an earlier reaction of the
+///   same sender, or takes it back where it says nothing, and no other reaction changes.
 /// - `time`: as time goes on, a card expires only where its deadline is reached.
 pub fn a_row_follows_from_what_names_it()
     ensures named { (me : Bytes) (t : Card) (cards : List Placed) → acts_on me t (naming t.id cards) ≡ acts_on me t cards }
@@ -159,6 +162,12 @@ pub fn a_row_follows_from_what_names_it()
         map (λ row. row.serial) rows ≡ range_with_len 1 (length rows) }
     ensures parts { (m : Mailbox) (t : Mail) → IsMailbox m
         → IsDistinct same_part (shown_by m.me t (acting m t.placed.card)).updates }
+    ensures reactors { (m : Mailbox) (t : Mail) → IsDistinct same_reactor (shown_by m.me t (acting m t.placed.card)).reactions }
+    ensures reactions { (m : Mailbox) (t : Mail)
+        → list_all (λ reaction. has_some reaction.1) (shown_by m.me t (acting m t.placed.card)).reactions ≡ true }
+    ensures last_reaction { (es : List Placed) (e : Placed) → reactions_by (es ++ e ∷ [])
+        ≡ filter (λ reaction. not (bytes_eq e.card.from reaction.0)) (reactions_by es)
+        ++ (if has_some (reaction_of e.card) then (e.card.from, reaction_of e.card) ∷ [] else []) }
     ensures time { (me : Bytes) (now later : ℕ) (t : Mail) → now ≤ later
         → IfSome (expiry me t) (λ end. (end ≤ now) ⊎ (later < end)) → is_expired me now t ≡ is_expired me later t }
 {}

@@ -57,6 +57,9 @@ pub struct Row {
     /// Who sent a receipt for it, each once, with the effective date of their first receipt in seconds since
     /// 1970-01-01 00:00:00 UTC, in mail order.
     pub readers: Items<(Addr, u64)>,
+    /// Who reacted to it, each once, with what their last reaction says, in mail order of these; an empty one takes back
+    /// what was said and is not among them.
+    pub reactions: Items<(Addr, Text)>,
     /// Whether one of its files is an app.
     pub app: bool,
     /// The updates of that app, in mail order, and those of one mail in their order there.

@@ -17,10 +17,13 @@ kind top sub params = record { top = top; sub = sub; params = params }
 
 -- an attachment of a file name
 abbrev file : List ℕ → Disposition
-file name = record { attach = true; name = name }
+file name = record { attach = true; reaction = false; name = name }
 
 abbrev inline : List ℕ → Disposition
-inline name = record { attach = false; name = name }
+inline name = record { attach = false; reaction = false; name = name }
+
+abbrev reaction : List ℕ → Disposition
+reaction name = record { attach = false; reaction = true; name = name }
 
 -- ---- segments
 
@@ -267,6 +270,19 @@ comment_after = refl
 other_word : disposition (codes "attachments; filename=a") ≡ inline (codes "a")
 unfolding utf8_lossy utf8_valid_len utf8_error_len is_utf8 chars lib.Utf8.encode digits percent_decode
 other_word = refl
+
+-- the example of RFC 9078, section 4.1
+rfc_9078 : disposition (codes "reaction") ≡ reaction []
+unfolding utf8_lossy utf8_valid_len utf8_error_len is_utf8 chars lib.Utf8.encode digits percent_decode
+rfc_9078 = refl
+
+reaction_in_capitals : disposition (codes "Reaction(c); filename=a") ≡ reaction (codes "a")
+unfolding utf8_lossy utf8_valid_len utf8_error_len is_utf8 chars lib.Utf8.encode digits percent_decode
+reaction_in_capitals = refl
+
+reactions : disposition (codes "reactions") ≡ inline []
+unfolding utf8_lossy utf8_valid_len utf8_error_len is_utf8 chars lib.Utf8.encode digits percent_decode
+reactions = refl
 
 file_name_empty : disposition (codes "attachment; filename=\"\"; filename=a") ≡ file []
 unfolding utf8_lossy utf8_valid_len utf8_error_len is_utf8 chars lib.Utf8.encode digits percent_decode

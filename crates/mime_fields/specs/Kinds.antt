@@ -1,4 +1,4 @@
--- Content types (RFC 2045, section 5) and dispositions (RFC 2183).
+-- Content types (RFC 2045, section 5) and dispositions (RFC 2183; RFC 9078).
 use Rattle.std.specs.Prelude.{ℕ, Bool, false, not, ◌&&◌, ◌==◌, if◌then◌else◌, List, [], codes, find, Option, Some, None, option_map, unwrap_or}
 use Rattle.std.specs.List.{list_any}
 use Rattle.kit.specs.Cuts.{split_once}
@@ -44,9 +44,11 @@ content_type body = content_type_in false body
 abbrev pub param_of : Kind → List ℕ → Option (List ℕ)
 param_of kind name = option_map (λ param. param.value) (find (λ param. same_name param.name name) kind.params)
 
--- the disposition in a body, with its file name (RFC 2183, section 2.3), or an empty one
+-- the disposition in a body, that of an attachment (RFC 2183, section 2.2), of a reaction (RFC 9078, section 2) or
+-- another, with its file name (RFC 2183, section 2.3), or an empty one
 abbrev pub disposition : List ℕ → Disposition
 disposition body = record {
   attach = same_name (main_word body) (codes "attachment");
+  reaction = same_name (main_word body) (codes "reaction");
   name = unwrap_or (value_in (raw_params body) (codes "filename")) [];
 }

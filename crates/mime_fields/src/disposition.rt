@@ -12,6 +12,8 @@ use std::alloc::Global;
 pub struct Disposition {
     /// Whether the part is an attachment (section 2.2).
     pub attach: bool,
+    /// Whether the part is a reaction to the mail that its own mail answers (RFC 9078, section 2).
+    pub reaction: bool,
     /// Its file name (section 2.3), which may be any text; empty where none is given.
     pub name: Text,
 }
@@ -20,14 +22,17 @@ pub struct Disposition {
 /// `Err` only when it runs out.
 ///
 /// The body is cut into segments as that of a Content-Type is. It says an attachment where the first segment, up to
-/// white space or a `(`, is `attachment`, without the case of letters. The file name is the value of the parameter
-/// `filename`, read as those of a content type are (RFC 2231), also where it says something else than an attachment.
+/// white space or a `(`, is `attachment`, and a reaction where that is `reaction`, without the case of letters. The file
+/// name is the value of the parameter `filename`, read as those of a content type are (RFC 2231), also where it says
+/// something else than an attachment.
 pub fn read_disposition(alloc: Global, body: &[u8]) -> Result<Disposition, Memory>
     ensures { IfOk result (λ read. read ≡ disposition body.now) }
 {
     let name = value_in(alloc, body, "filename")?;
+    let word = main_word(body);
     Ok(Disposition {
-        attach: same_name(main_word(body), b"attachment"),
+        attach: same_name(word, b"attachment"),
+        reaction: same_name(word, b"reaction"),
         name: name.unwrap_or(Text::from(String::new(alloc))),
     })
 }

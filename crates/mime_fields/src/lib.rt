@@ -1,5 +1,5 @@
-//! What the fields Content-Type and Content-Disposition of a part say (RFC 2045, section 5; RFC 2183), with their
-//! parameters (RFC 2231).
+//! What the fields Content-Type and Content-Disposition of a part say (RFC 2045, section 5; RFC 2183; RFC 9078), with
+//! their parameters (RFC 2231).
 #![tactic(auto)]
 
 mod content_type;

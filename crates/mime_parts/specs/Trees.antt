@@ -43,6 +43,7 @@ node_of levels digest part leaf =
       kind = kind;
       encoding = encoding_of (field part.head (codes "Content-Transfer-Encoding"));
       attach = named.attach;
+      reaction = named.reaction;
       name = file_name named.name kind;
       start = part.span.start;
       end = part.span.end;

@@ -24,6 +24,8 @@ pub struct PartNode {
     pub encoding: Encoding,
     /// Whether its disposition says that it is an attachment (RFC 2183, section 2.2).
     pub attach: bool,
+    /// Whether its disposition says that it is a reaction (RFC 9078, section 2).
+    pub reaction: bool,
     /// The file name that its disposition gives, or else its type; empty where none is given.
     pub name: Text,
     /// Where its content begins, after its own header, as an offset in the body of the mail.
@@ -102,6 +104,7 @@ pub fn node_of(
         kind,
         encoding: encoding_of(header.field(b"Content-Transfer-Encoding")),
         attach: disposition.attach,
+        reaction: disposition.reaction,
         name,
         start: content.start,
         end: content.end,

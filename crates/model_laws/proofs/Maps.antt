@@ -1,10 +1,10 @@
 -- Maps of lists, before and after what is done with them.
-use Rattle.std.proofs.Common.{◌≡◌, refl, ap, ◌∙◌, ℕ, ◌+◌, Bool, true, false, not, cond, Option, Some, None, List, [], ◌∷◌, ◌++◌, map}
-use Rattle.std.specs.Prelude.{filter, filter_map, flat_map, find, option_map}
+use Rattle.std.proofs.Common.{◌≡◌, refl, sym, ap, ◌∙◌, ℕ, ◌+◌, Bool, true, false, not, cond, Option, Some, None, List, [], ◌∷◌, ◌++◌, map}
+use Rattle.std.specs.Prelude.{filter, filter_map, flat_map, find, option_map, reverse}
 use Rattle.std.specs.List.{cons_option, enumerate_from}
 use Rattle.std.specs.Option.{option_or}
-use Rattle.std.proofs.lemmas.List.{map-append}
-use Rattle.lists.specs.Distinct.{firsts}
+use Rattle.std.proofs.lemmas.List.{map-append, reverse-append}
+use Rattle.lists.specs.Distinct.{firsts, lasts}
 use Rattle.mailbox_model.specs.Lists.{last_of}
 
 module _ {X Y : Type 0} (f : X → Y) where
@@ -46,6 +46,19 @@ module _ {X Y : Type 0} (f : X → Y) where
   firsts-map same other h (x ∷ xs) =
       ap (λ ys. f x ∷ filter (λ y. not (same (f x) y)) ys) (firsts-map same other h xs)
       ∙ ap (λ ys. f x ∷ ys) (filter-map (λ y. not (same (f x) y)) (λ y. not (other x y)) (λ y. ap not (h x y)) (firsts other xs))
+
+  reverse-map : (xs : List X) → reverse (map f xs) ≡ map f (reverse xs)
+  reverse-map [] = refl
+  reverse-map (x ∷ xs) =
+      reverse-append (f x ∷ []) (map f xs) ∙ ap (λ ys. ys ++ f x ∷ []) (reverse-map xs)
+      ∙ sym (map-append f (reverse xs) (x ∷ [])) ∙ ap (map f) (sym (reverse-append (x ∷ []) xs))
+
+  pub lasts-map : (same : Y → Y → Bool) (other : X → X → Bool) → ((x y : X) → same (f x) (f y) ≡ other x y) → (xs : List X)
+      → lasts same (map f xs) ≡ map f (lasts other xs)
+  lasts-map same other h xs =
+      ap (λ ys. reverse (firsts same ys)) (reverse-map xs)
+      ∙ ap reverse (firsts-map same other h (reverse xs))
+      ∙ reverse-map (firsts other (reverse xs))
 
   pub last_of-map : (xs : List X) → last_of (map f xs) ≡ option_map f (last_of xs)
   last_of-map [] = refl

@@ -4,7 +4,7 @@ use Rattle.std.specs.Prelude.{if◌then◌else◌, ◌||◌, nat_lt, filter, fil
 use Rattle.std.specs.List.{enumerate_from, list_any}
 use Rattle.std.proofs.lemmas.List.{length-map}
 use Rattle.std.proofs.lemmas.List.Folds.{flat_map-map}
-use Rattle.lists.specs.Distinct.{firsts}
+use Rattle.lists.specs.Distinct.{firsts, lasts}
 use Rattle.lists.specs.Sorted.{sorted_by}
 use Rattle.kit.specs.Options.{◌>>=◌}
 use Rattle.card_type.specs.declared.card.Card.{Card}
@@ -20,7 +20,7 @@ use Rattle.mailbox_model.specs.declared.row.UpdateRow.{UpdateRow}
 use Rattle.mailbox_model.specs.Lists.{Bytes, last_of}
 use Rattle.mailbox_model.specs.Present.{Placed, Mail, spot, has_id}
 use Rattle.mailbox_model.specs.Chats.{Known, known_chat, known_after, next_chat, cites_by, chats_of, is_chat}
-use Rattle.mailbox_model.specs.Rows.{Act, Brought, act_on, acts_on, acting_by, is_effect, is_expired, text_card, same_sender, readers_by, brought_by, update_row, updates_by, shown_by, row_by, is_fresh}
+use Rattle.mailbox_model.specs.Rows.{Act, Brought, act_on, acts_on, acting_by, is_effect, is_expired, text_card, same_sender, readers_by, reaction_of, reactions_by, brought_by, update_row, updates_by, shown_by, row_by, is_fresh}
 use Rattle.mailbox_model.specs.Rosters.{roster_of}
 use Rattle.mailbox_model.specs.Contacts.{name_among}
 use Rattle.mailbox_model.specs.Names.{name_by}
@@ -31,7 +31,7 @@ use Rattle.mailbox_model.specs.Answers.{has_info}
 use Rattle.mailbox_model.specs.Answers.Question.{AllUpdates, InfoUpdates}
 use Rattle.mailbox_model.proofs.CountLaws.{sum_by-map}
 use Rattle.model_laws.specs.Numbers.{unnumbered_update, unnumbered_row, unnumbered}
-use Rattle.model_laws.proofs.Maps.{map_twice, filter-map, find-map, filter_map-map, firsts-map, last_of-map, enumerate_from-map, map-flat_map, flat_map_same}
+use Rattle.model_laws.proofs.Maps.{map_twice, filter-map, find-map, filter_map-map, firsts-map, lasts-map, last_of-map, enumerate_from-map, map-flat_map, flat_map_same}
 use Rattle.model_laws.proofs.Parts.{is_shown_kind, contents_in, chats_in, mails_in, row_in, roster_in, cards_in, name_in, rows_in, keys_in, page_in, list_row_in, list_rows_in, updates_in, answer_in}
 
 abbrev bare_placed : Placed → Placed
@@ -87,6 +87,13 @@ readers_bare es =
     ap (map (λ e. (e.card.from, e.date))) (firsts-map bare_placed same_sender same_sender (λ a b. refl) es)
     ∙ map_twice bare_placed (λ e. (e.card.from, e.date)) (firsts same_sender es)
 
+reactions_bare : (es : List Placed) → reactions_by (map bare_placed es) ≡ reactions_by es
+reactions_bare es =
+    let says = λ (e : Placed). has_some (reaction_of e.card) in
+    ap (λ xs. map (λ (e : Placed). (e.card.from, reaction_of e.card)) (filter says xs)) (lasts-map bare_placed same_sender same_sender (λ a b. refl) es)
+    ∙ ap (map (λ (e : Placed). (e.card.from, reaction_of e.card))) (filter-map bare_placed says says (λ e. refl) (lasts same_sender es))
+    ∙ map_twice bare_placed (λ e. (e.card.from, reaction_of e.card)) (filter says (lasts same_sender es))
+
 brought_bare : (e : Placed) → brought_by (bare_placed e) ≡ map bare_brought (brought_by e)
 brought_bare e = sym (map_twice (λ p. record { by = e; part = p.0; update = p.1 }) bare_brought (enumerate_from 0 e.card.updates))
 
@@ -106,12 +113,14 @@ shown_bare me t acts =
     let text = ap (λ o. text_card o card) edit ∙ text_bare edits card in
     let edited = ap is_some edit ∙ some_bare edits in
     let readers = ap readers_by (acting_bare effects.Read acts) ∙ readers_bare (acting_by effects.Read acts) in
+    let reactions = ap reactions_by (acting_bare effects.Reaction acts) ∙ reactions_bare (acting_by effects.Reaction acts) in
     let updates = ap updates_by (acting_bare effects.Update acts) ∙ updates_bare (acting_by effects.Update acts) in
     λ i. record (unnumbered_row (shown_by me t acts)) {
       text = (text i).text;
       cut = (text i).cut;
       edited = edited i;
       readers = readers i;
+      reactions = reactions i;
       updates = updates i;
     }
 

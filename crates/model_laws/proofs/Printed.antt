@@ -6,7 +6,7 @@ use Rattle.std.proofs.lemmas.List.{length-map}
 use Rattle.mailbox_model.specs.declared.row.Row.{Row}
 use Rattle.mailbox_model.specs.Bodies.{body, where_true}
 use Rattle.mailbox_model.specs.Lists.{Bytes}
-use Rattle.mailbox_model.specs.Printed.{field, mark_text, file_line, reader_line, row_text}
+use Rattle.mailbox_model.specs.Printed.{field, mark_text, file_line, reaction_line, reader_line, row_text}
 use Rattle.mailbox_model.specs.Times.{time_text}
 use Rattle.model_laws.specs.Numbers.{unnumbered_update, unnumbered_row}
 
@@ -14,7 +14,7 @@ use Rattle.model_laws.specs.Numbers.{unnumbered_update, unnumbered_row}
 abbrev text_after : Row → ℕ → Bytes → Bytes
 text_after r updates first =
     first ++ codes " " ++ time_text r.date ++ codes " " ++ field r.from ++ codes " " ++ mark_text r.mark ++ codes ": " ++ field (body r) ++ codes "\n"
-    ++ flat_map file_line r.attachments ++ flat_map reader_line r.readers
+    ++ flat_map file_line r.attachments ++ flat_map reader_line r.readers ++ flat_map reaction_line r.reactions
     ++ where_true r.app (codes "  updates " ++ decimal updates ++ codes "\n")
 
 after_these : (r : Row) (updates : ℕ) (first : Bytes) → text_after r updates first ≡ first ++ text_after r updates []

@@ -9,7 +9,7 @@ use Rattle.std.specs.Cmp.Lexicographic.{bytes_decides}
 use Rattle.std.proofs.lemmas.Bool.{both_ways, and_parts, or_parts}
 use Rattle.card_type.specs.declared.card.Card.{Card}
 use Rattle.card_type.specs.declared.kind.Kind.{Kind}
-use Rattle.card_type.specs.declared.kind.Kind.TheVariants.{Receipt, Delete, Edit, Update, Content}
+use Rattle.card_type.specs.declared.kind.Kind.TheVariants.{Receipt, Delete, Edit, Update, Reaction, Content}
 use Rattle.card_type.specs.declared.effect.Effect.{Effect}
 use Rattle.card_type.specs.declared.effect.Effect.TheVariants as effects
 use Rattle.card_type.specs.Effects.{effect_of, effect_by, is_among, names, names_by, has_person}
@@ -20,11 +20,11 @@ use Rattle.mailbox_model.specs.Lists.{Bytes, last_of}
 use Rattle.mailbox_model.specs.Mailbox.{Mailbox, after}
 use Rattle.mailbox_model.specs.Present.{Placed, Mail, mail_cmp, mails, has_id, same_id, present}
 use Rattle.mailbox_model.specs.Turns.{arriving, with_mail}
-use Rattle.mailbox_model.specs.Rows.{Act, act_on, acting_by, is_effect, is_expired, text_card, updates_by, shown_by, row_by, acting, row}
+use Rattle.mailbox_model.specs.Rows.{Act, act_on, acting_by, is_effect, is_expired, text_card, reactions_by, updates_by, shown_by, row_by, acting, row}
 use Rattle.lists.specs.Distinct.{firsts}
 use Rattle.lists.proofs.Inserts.{none_from_found}
 use Rattle.mailbox_model.proofs.MailLaws.{order, is_alike, mails-arrive}
-use Rattle.model_laws.specs.Strangers.{IsReceiptOfOwn, but_readers, but_readers_and_updates}
+use Rattle.model_laws.specs.Strangers.{IsReceiptOfOwn, but_readers, but_added}
 use Rattle.model_laws.proofs.InOrder.{firsts_new, found_present, mails_in_order}
 
 -- ---- a card with a new id comes in
@@ -92,6 +92,7 @@ keeps_text e t me h = named (is_content (kind_of t) && is_among (names e) t.id)
     by Delete = rw h tt
     by Edit = rw h tt
     by Update = some (t.app && has_person t e.from) effects.Update (refl, refl)
+    by Reaction = some (has_person t e.from) effects.Reaction (refl, refl)
     by Content = tt
 
     named : (b : Bool) → IfSome (if b then effect_by (kind_of e) e t me else None) KeepsText
@@ -114,23 +115,25 @@ module _ (me : Bytes) (now : ℕ) (t : Mail) (first second : List Act)
   abbrev hidden : List Placed → Bool
   hidden es = has_some es || is_expired me now t
 
-  but_both : option_map but_readers_and_updates (row_by me now t first) ≡ option_map but_readers_and_updates (row_by me now t second)
-  but_both =
-      shown_alike but_readers_and_updates (hidden (acting_by effects.Delete first)) (hidden (acting_by effects.Delete second)) (shown_by me t first) (shown_by me t second) (ap hidden deletes)
+  but_all : option_map but_added (row_by me now t first) ≡ option_map but_added (row_by me now t second)
+  but_all =
+      shown_alike but_added (hidden (acting_by effects.Delete first)) (hidden (acting_by effects.Delete second)) (shown_by me t first) (shown_by me t second) (ap hidden deletes)
       (λ i. record (shown_by me t first) {
         readers = [];
+        reactions = [];
         updates = [];
         text = (text_card (last_of (edits i)) t.placed.card).text;
         cut = (text_card (last_of (edits i)) t.placed.card).cut;
         edited = is_some (last_of (edits i));
       })
 
-  but_read : acting_by effects.Update first ≡ acting_by effects.Update second
+  but_read : acting_by effects.Reaction first ≡ acting_by effects.Reaction second → acting_by effects.Update first ≡ acting_by effects.Update second
       → option_map but_readers (row_by me now t first) ≡ option_map but_readers (row_by me now t second)
-  but_read updates =
+  but_read reactions updates =
       shown_alike but_readers (hidden (acting_by effects.Delete first)) (hidden (acting_by effects.Delete second)) (shown_by me t first) (shown_by me t second) (ap hidden deletes)
       (λ i. record (shown_by me t first) {
         readers = [];
+        reactions = reactions_by (reactions i);
         updates = updates_by (updates i);
         text = (text_card (last_of (edits i)) t.placed.card).text;
         cut = (text_card (last_of (edits i)) t.placed.card).cut;
@@ -168,16 +171,16 @@ module _ (m : Mailbox) (e : Card) (t : Mail) (new : find (has_id e.id) (present 
   alike effect P other h = acting_is (acting_by effect) (acting_alike does y effect (of_act effect P other h) (present m))
 
   pub edits_row : bytes_eq e.from t.placed.card.from ≡ false
-      → option_map but_readers_and_updates (row (after m (Arrive e)) t) ≡ option_map but_readers_and_updates (row m t)
+      → option_map but_added (row (after m (Arrive e)) t) ≡ option_map but_added (row m t)
   edits_row other =
       let h = keeps_text e t.placed.card m.me other in
-      but_both m.me m.now t (acting (after m (Arrive e)) t.placed.card) (acting m t.placed.card) (alike effects.Edit KeepsText (λ x p. p.0) h) (alike effects.Delete KeepsText (λ x p. p.1) h)
+      but_all m.me m.now t (acting (after m (Arrive e)) t.placed.card) (acting m t.placed.card) (alike effects.Edit KeepsText (λ x p. p.0) h) (alike effects.Delete KeepsText (λ x p. p.1) h)
 
   pub sent_row : IfSome (effect_of e t.placed.card m.me) (IsReceiptOfOwn e t.placed.card m.me)
       → option_map but_readers (row (after m (Arrive e)) t) ≡ option_map but_readers (row m t)
   sent_row h =
       let P = IsReceiptOfOwn e t.placed.card m.me in
-      but_read m.me m.now t (acting (after m (Arrive e)) t.placed.card) (acting m t.placed.card) (alike effects.Edit P (λ x p. ap (is_effect effects.Edit) p.effect_is) h) (alike effects.Delete P (λ x p. ap (is_effect effects.Delete) p.effect_is) h) (alike effects.Update P (λ x p. ap (is_effect effects.Update) p.effect_is) h)
+      but_read m.me m.now t (acting (after m (Arrive e)) t.placed.card) (acting m t.placed.card) (alike effects.Edit P (λ x p. ap (is_effect effects.Edit) p.effect_is) h) (alike effects.Delete P (λ x p. ap (is_effect effects.Delete) p.effect_is) h) (alike effects.Reaction P (λ x p. ap (is_effect effects.Reaction) p.effect_is) h) (alike effects.Update P (λ x p. ap (is_effect effects.Update) p.effect_is) h)
 
   pub received_row : IfSome (effect_of e t.placed.card m.me) (IsReceiptOfOwn e t.placed.card m.me) → bytes_eq t.placed.card.from m.me ≡ false
       → row (after m (Arrive e)) t ≡ row m t
@@ -223,6 +226,7 @@ stranger e t me h = named (is_content (kind_of t)) (is_among (names e) t.id) ref
         none : (b : Bool) → IfSome (if b && false then Some effects.Update else None) (IsReceiptOfOwn e t me)
         none true = tt
         none false = tt
+    by Reaction kind among = rw h tt
     by Content kind among = tt
 
     named : (b c : Bool) → is_among (names e) t.id ≡ c → IfSome (if b && c then effect_by (kind_of e) e t me else None) (IsReceiptOfOwn e t me)

@@ -16,6 +16,6 @@ pub record IsReceiptOfOwn (e t : Card) (me : Bytes) (effect : Effect) : Type 0 w
 abbrev pub but_readers : Row → Row
 but_readers r = record r { readers = [] }
 
--- all of a row but who read it, and the updates of its app
-abbrev pub but_readers_and_updates : Row → Row
-but_readers_and_updates r = record r { readers = []; updates = [] }
+-- all of a row but what others add to it: who read it, who reacted to it, and the updates of its app
+abbrev pub but_added : Row → Row
+but_added r = record r { readers = []; reactions = []; updates = [] }

@@ -27,7 +27,7 @@ ghost use Rattle.model_laws.specs.Clocks.{NoneFallsDue};
 ghost use Rattle.model_laws.specs.Marks.{unmarked, uncounted};
 ghost use Rattle.model_laws.specs.Numbers.{unnumbered, unnumbered_row};
 ghost use Rattle.model_laws.specs.SameCards.{HaveSameCards, BringSameCards};
-ghost use Rattle.model_laws.specs.Strangers.{IsReceiptOfOwn, but_readers, but_readers_and_updates};
+ghost use Rattle.model_laws.specs.Strangers.{IsReceiptOfOwn, but_readers, but_added};
 
 /// Every answer follows from the present mails: where two mailboxes have alike the own address, the moment, the present
 /// mails and the mails that could not be read, each question is answered by equal bytes, or none for both.
@@ -70,7 +70,8 @@ pub fn expunge_undoes_arrival()
 /// - `effect`: nothing, but that it is a reader of an own mail where it is a receipt for it.
 /// - `received`: where it arrives under a new id, the row of a mail from another one stays as it is.
 /// - `sent`: and that of an own mail stays as it is but for its readers.
-/// - `edits`: whoever is not the sender, stranger or not, changes nothing of a row but its readers and its updates.
+/// - `edits`: whoever is not the sender, stranger or not, changes nothing of a row but its readers, its reactions
+///   and its updates.
 pub fn strangers_change_little()
     ensures effect { (e t : Card) (me : Bytes) → has_person t e.from ≡ false → IfSome (effect_of e t me) (IsReceiptOfOwn e t me) }
     ensures received { (m : Mailbox) (e : Card) (t : Mail) → find (has_id e.id) (present m) ≡ None
@@ -81,7 +82,7 @@ pub fn strangers_change_little()
         → option_map but_readers (row (after m (Arrive e)) t) ≡ option_map but_readers (row m t) }
     ensures edits { (m : Mailbox) (e : Card) (t : Mail) → find (has_id e.id) (present m) ≡ None
         → bytes_eq e.from t.placed.card.from ≡ false
-        → option_map but_readers_and_updates (row (after m (Arrive e)) t) ≡ option_map but_readers_and_updates (row m t) }
+        → option_map but_added (row (after m (Arrive e)) t) ≡ option_map but_added (row m t) }
 {}
 
 /// A mail that cannot be read is a line of the list of chats, and nothing else.

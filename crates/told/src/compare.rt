@@ -19,6 +19,7 @@ fn are_shown_alike(one: &Row, other: &Row) -> bool {
         && one.mark == other.mark
         && one.attachments == other.attachments
         && one.readers == other.readers
+        && one.reactions == other.reactions
         && one.app == other.app
         && one.updates == other.updates
 }

@@ -7,4 +7,4 @@ returns-clause-value c =
     let last = c.floor_char_boundary.ensures in
     let kept = c.floor_char_boundary.result in
     let whole : kept - 0 ≡ kept = omega arith in
-    c.range.ensures.value ∙ ap (λ n. take n c.args.text.now) whole ∙ prefix-is c.args.text.now kept (last.bound, last.boundary, last.nearest)
+    c.range.ensures.value ∙ ap (λ n. take n c.args.text.now) whole ∙ prefix-is c.args.limit c.args.text.now kept (last.bound, last.boundary, last.nearest)

@@ -19,8 +19,9 @@ returns-clause-stands c =
         mark = c.mark_of.ensures spot i;
         attachments = c.in_ok-copy-5.ensures i;
         readers = c.new.ensures i;
+        reactions = c.new-2.ensures i;
         app = card.app;
-        updates = c.new-2.ensures i;
+        updates = c.new-3.ensures i;
       };
       withdrawn = refl;
       expiry = c.expiry.ensures;
