@@ -18,6 +18,9 @@ const TAKES: [(Result<usize, Failed>, u8); 4] = [
     (Ok(0), b'c'),
 ];
 
+/// How much two bytes of room take of a source of three, where these are the most that it gives at once.
+const PIECES: [(usize, usize); 3] = [(1, 1), (3, 2), (3, 0)];
+
 /// What is put into a sink with room for four bytes whose second call fails, the answer, and what it has then.
 const PUTS: [(&[u8], Result<(), Failed>, &[u8]); 4] = [
     (b"ab", Ok(()), b"ab"),
@@ -32,6 +35,11 @@ fn sources_give_their_bytes<R: Abort>(rt: &R, alloc: Global) -> Result<(), Fail>
     for &(answer, first) in &TAKES {
         assert_same(rt, source.take(&mut buf), answer);
         assert_same(rt, buf[0], first);
+    }
+    let mut pieces = MemorySource::new(b"abc".as_slice().to_vec(alloc)?, Vec::new(alloc));
+    for &(most, count) in &PIECES {
+        pieces.set_piece(most);
+        assert_row(rt, most, pieces.take(&mut buf), Ok(count));
     }
     let mut quiet = QuietSource::new(b"ab".as_slice().to_vec(alloc)?);
     let mut buf = [0u8; 4];
