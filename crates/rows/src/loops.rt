@@ -2,7 +2,7 @@
 use crate::disk::{Faults, empty_shelf, with_faults, with_place};
 use crate::ends::add_outcome;
 use crate::kept::{first_bytes, joined, slot};
-use crate::runs::{Ended, Files, run_words};
+use crate::runs::{Ended, Fails, Files, run_words};
 use follow::Status;
 use kit::{Memory, Text};
 use outside::Place;
@@ -28,7 +28,7 @@ fn add_again(
     crash: Crash,
 ) -> Result<(), Memory> {
     let mut left = shelf.crash(crash)?;
-    let again = run_words(alloc, words, files, &mut left)?;
+    let again = run_words(alloc, words, files, Fails::NONE, &mut left)?;
     told.extend_from_slice(match crash {
         Crash::Old => b", after the old bytes ",
         Crash::New => b", after the new bytes ",
@@ -48,7 +48,7 @@ fn told_of_stop(
 ) -> Result<Vec<u8>, Memory> {
     let mut told = Vec::new(alloc);
     let mut stopped = with_faults(alloc, shelf, Faults { fails: 0, stop })?;
-    let ended = run_words(alloc, words, files, &mut stopped)?;
+    let ended = run_words(alloc, words, files, Fails::NONE, &mut stopped)?;
     add_outcome(&mut told, &ended, first)?;
     for &crash in &[Crash::Old, Crash::New, Crash::Ones] {
         add_again(&mut told, alloc, words, files, &stopped, first, crash)?;
@@ -69,6 +69,7 @@ pub fn add_stops(
         alloc,
         words,
         files,
+        Fails::NONE,
         &mut with_faults(alloc, shelf, Faults::NONE)?,
     )?;
     let mut ranges = Ranges::new(alloc);
@@ -86,7 +87,7 @@ fn told_of_run(
     files: &Files,
     shelf: &mut MemoryShelf,
 ) -> Result<Vec<u8>, Memory> {
-    let ended = run_words(alloc, words, files, shelf)?;
+    let ended = run_words(alloc, words, files, Fails::NONE, shelf)?;
     let mut told = Vec::new(alloc);
     if ended.status == Status::Ok {
         told.extend_from_slice(b"ok, T ")?;

@@ -1,6 +1,7 @@
 //! How a script is played.
 use crate::disk::{empty_shelf, next_shelf};
 use crate::ends::{add_calls, add_ended, add_sizes};
+use crate::failing::add_fails;
 use crate::hollow::Hollow;
 use crate::kept::place_of;
 use crate::loops::{Numbers, add_cuts, add_heads, add_stops};
@@ -21,7 +22,7 @@ fn say_run(
     line: &[u8],
 ) -> Result<(), Memory> {
     let words = words_of(alloc, line)?;
-    let ended = run_words(alloc, &words, &stage.files, shelf)?;
+    let ended = run_words(alloc, &words, &stage.files, stage.fails, shelf)?;
     add_ended(said, alloc, &ended)?;
     add_sizes(said, alloc, shelf)?;
     said.push(b'\n')?;
@@ -37,7 +38,7 @@ fn say_hollow(said: &mut Vec<u8>, alloc: Global, stage: &Stage, line: &[u8]) -> 
         size: number(size),
         head: unescaped(alloc, head, &[])?,
     };
-    let ended = run_words(alloc, &words, &stage.files, &mut shelf)?;
+    let ended = run_words(alloc, &words, &stage.files, stage.fails, &mut shelf)?;
     add_ended(said, alloc, &ended)?;
     said.push(b'\n')?;
     Ok(())
@@ -65,6 +66,20 @@ fn say_stops(
     let (stops, line) = numbers(line);
     let words = words_of(alloc, line)?;
     add_stops(said, alloc, &words, &stage.files, shelf, stops)
+}
+
+/// Says how runs go of which each of some calls of a device fails.
+fn say_fails(
+    said: &mut Vec<u8>,
+    alloc: Global,
+    stage: &Stage,
+    shelf: &MemoryShelf,
+    line: &[u8],
+) -> Result<(), Memory> {
+    let (device, line) = first_word(line);
+    let (calls, line) = numbers(line);
+    let words = words_of(alloc, line)?;
+    add_fails(said, alloc, &words, &stage.files, shelf, device, calls)
 }
 
 /// Says how runs go over a place that is cut to each of some sizes.
@@ -127,6 +142,7 @@ fn say(
         b"kept" => say_kept(said, alloc, shelf, rest),
         b"calls" => add_calls(said, alloc, shelf),
         b"stops" => say_stops(said, alloc, stage, shelf, rest),
+        b"fails" => say_fails(said, alloc, stage, shelf, rest),
         b"cuts" => say_cuts(said, alloc, stage, shelf, rest),
         b"heads" => say_heads(said, alloc, stage, rest),
         _ => Ok(()),
@@ -137,14 +153,14 @@ fn say(
 fn is_command(command: &[u8]) -> bool {
     matches!(
         command,
-        b"mbox" | b"steps" | b"remove" | b"each" | b"cut" | b"fail" | b"clock" | b"run" | b"anew"
+        b"mbox" | b"trial" | b"chain" | b"steps" | b"remove" | b"each" | b"cut" | b"piece" | b"fail"
     ) || matches!(
         command,
-        b"hollow" | b"kept" | b"calls" | b"stops" | b"cuts" | b"heads" | b"shelf" | b"stop"
+        b"clock" | b"run" | b"anew" | b"hollow" | b"kept" | b"calls" | b"stops" | b"fails" | b"cuts"
     ) || matches!(
         command,
-        b"crash" | b"copy" | b"keep" | b"add" | b"slot" | b"patch" | b"" | b"#"
-    )
+        b"heads" | b"shelf" | b"stop" | b"crash" | b"copy" | b"keep" | b"add" | b"slot" | b"patch"
+    ) || matches!(command, b"" | b"#")
 }
 
 /// Makes the command of a line, and says what comes of it. What fails in a run fails in no later one.
@@ -165,7 +181,7 @@ fn make(
     stage.set(alloc, command, words)?;
     say(said, alloc, stage, shelf, command, words)?;
     if matches!(command, b"run" | b"anew") {
-        stage.files.fails = Fails::NONE;
+        stage.fails = Fails::NONE;
     }
     Ok(())
 }

@@ -1,5 +1,7 @@
 //! The stage of a script: its mails, the files, the failing calls and the clock of the next run, and the fields of what is kept.
+use crate::chain::chain_of;
 use crate::runs::{Fails, Files};
+use crate::trial_mails::first_mails;
 use kit::{Memory, Text};
 use scripts::{first_word, number, repeat, unescaped};
 use std::alloc::Global;
@@ -12,10 +14,12 @@ pub struct Named {
     mail: Vec<u8>,
 }
 
-/// The files, the mails that an mbox can be made of, and the fields that a place can be made of.
+/// The files, the calls that fail in the next run, the mails that an mbox can be made of, and the fields that a place can be
+/// made of.
 #[derive(Drop)]
 pub struct Stage {
     pub files: Files,
+    pub fails: Fails,
     pub mails: Vec<Named>,
     pub fields: Vec<Vec<u8>>,
 }
@@ -71,7 +75,7 @@ fn no_files(alloc: Global) -> Files {
     Files {
         mbox: Vec::new(alloc),
         steps: None,
-        fails: Fails::NONE,
+        piece: 0,
         moment: 0,
     }
 }
@@ -81,6 +85,7 @@ impl Stage {
     pub fn new(alloc: Global) -> Stage {
         Stage {
             files: no_files(alloc),
+            fails: Fails::NONE,
             mails: Vec::new(alloc),
             fields: Vec::new(alloc),
         }
@@ -89,6 +94,7 @@ impl Stage {
     /// Leaves nothing but the mails.
     pub fn clear(&mut self, alloc: Global) {
         self.files = no_files(alloc);
+        self.fails = Fails::NONE;
         self.fields = Vec::new(alloc);
     }
 
@@ -108,26 +114,19 @@ impl Stage {
         }
     }
 
-    /// Has one call of a device fail in the next run.
-    fn set_fail(&mut self, device: &[u8], call: u64) {
-        match device {
-            b"mbox" => self.files.fails.mbox = call,
-            b"steps" => self.files.fails.steps = call,
-            b"put" => self.files.fails.put = call,
-            _ => {}
-        }
-    }
-
     /// Makes a command on the files that is one line.
     pub fn set(&mut self, alloc: Global, command: &[u8], rest: &[u8]) -> Result<(), Memory> {
         let (word, more) = first_word(rest);
         match command {
             b"mbox" => self.files.mbox = mbox_of(alloc, &self.mails, rest)?,
+            b"chain" => self.files.mbox = chain_of(alloc, number(word))?,
+            b"trial" => self.files.mbox = first_mails(alloc, number(word), number(more))?,
             b"steps" => self.files.steps = Some(unescaped(alloc, rest, &[])?),
             b"remove" => self.files.steps = None,
             b"each" => self.add_each(alloc, word, more)?,
             b"cut" if word == b"mbox".as_slice() => self.files.mbox.truncate(number(more) as usize),
-            b"fail" => self.set_fail(word, number(more)),
+            b"piece" => self.files.piece = number(word),
+            b"fail" => self.fails.set(word, number(more)),
             b"clock" => self.files.moment = number(word),
             _ => {}
         }
