@@ -1,15 +1,52 @@
 -- What is known of a shelf of files.
-use Rattle.std.specs.Prelude.{◌≡◌}
+use Rattle.std.specs.Prelude.{◌≡◌, ◌⊎◌, ℕ, List, ⊤}
+use Rattle.std.specs.declared.option.Option.{Option}
 use Rattle.outside.specs.declared.shelf.Place.{Place}
 use Rattle.outside.specs.declared.shelf.Place.TheVariants.{A, B, T}
+use Rattle.outside.specs.Causes.{Rose}
 use Rattle.shelves.specs.declared.place_file.PlaceFile.{PlaceFile}
-use Rattle.shelves.specs.declared.place_file.PlaceFile.TheVariants.{Absent, Broken}
+use Rattle.shelves.specs.declared.place_file.PlaceFile.TheVariants.{Unopened, Open, Absent, Broken}
 use Rattle.shelves.specs.declared.file_shelf.PlaceFiles.{PlaceFiles}
+use Rattle.shelves.specs.declared.file_shelf.PlaceNames.{PlaceNames}
+use Rattle.shelves.specs.Folder.{IsNamed, emptied}
 
+-- what a file holds, where it is known: kept is what the folder has by its name
+abbrev pub content_of : {F : Type 0} → (F → Option (List ℕ)) → Option (List ℕ) → PlaceFile F → Option (List ℕ)
+content_of holds kept Unopened = kept
+content_of holds kept (Open file) = holds file
+content_of holds kept Absent = emptied kept
+content_of holds kept Broken = kept
+
+-- where it is open, it was opened or made by this name
+abbrev pub IsOpenedBy : {F : Type 0} → (F → Option (List ℕ)) → List ℕ → PlaceFile F → Type 0
+IsOpenedBy name_of name (Open file) = IsNamed name (name_of file)
+IsOpenedBy name_of name _ = ⊤
+
+-- where it is open, it holds what it held at its last sync
+abbrev pub IsSynced : {F : Type 0} → (F → Option (List ℕ)) → (F → Option (List ℕ)) → PlaceFile F → Type 0
+IsSynced synced holds (Open file) = synced file ≡ holds file
+IsSynced synced holds _ = ⊤
+
+-- why a call on a file failed: the folder did, or the file can't be opened
+abbrev pub FailsFor : {F : Type 0} → ℕ → ℕ → PlaceFile F → Type 0
+FailsFor before now file = Rose before now ⊎ (file ≡ Broken)
+
+-- the file of the place
 abbrev pub file_of : {F : Type 0} → Place → PlaceFiles F → PlaceFile F
 file_of A files = files.a
 file_of B files = files.b
 file_of T files = files.t
+
+-- the name of the place
+abbrev pub name_at : Place → PlaceNames → List ℕ
+name_at A names = names.a.now
+name_at B names = names.b.now
+name_at T names = names.t.now
+
+-- what the file of the place holds, where it is known
+abbrev pub content_at : {F : Type 0} → (F → Option (List ℕ)) → (List ℕ → Option (List ℕ)) → Place → PlaceNames
+    → PlaceFiles F → Option (List ℕ)
+content_at holds kept place names files = content_of holds (kept (name_at place names)) (file_of place files)
 
 -- the file of the place is absent so far
 abbrev pub IsAbsent : {F : Type 0} → Place → PlaceFiles F → Type 0

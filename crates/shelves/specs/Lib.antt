@@ -1,6 +1,9 @@
 -- What public clauses cite.
 pub mod MemoryShelf
+pub mod Folder
 pub mod FileShelf
+pub mod RealFolder
+pub mod MemoryFolder
 pub mod Calls
 pub mod History
 pub mod Disks

@@ -28,7 +28,7 @@ pub struct MemoryShelf {
 }
 
 // Reads what there is from an offset on.
-fn read_part(all: &[u8], at: u64, buf: &mut [u8]) -> usize
+pub fn read_part(all: &[u8], at: u64, buf: &mut [u8]) -> usize
     ensures count { result ≡ min (length buf.old) (length all.now - at) }
     ensures bytes { take result buf.new ≡ take result (drop at all.now) }
     ensures len { length buf.new ≡ length buf.old }
@@ -43,7 +43,7 @@ fn read_part(all: &[u8], at: u64, buf: &mut [u8]) -> usize
 }
 
 // Whether so many bytes from this offset on end within the room.
-fn has_room(room: usize, at: u64, len: usize) -> bool
+pub fn has_room(room: usize, at: u64, len: usize) -> bool
     ensures { IsTrue result ↔ (at + len ≤ room) }
 {
     match (at as usize).checked_add(len) {
