@@ -12,3 +12,4 @@ pub mod MemorySource
 pub mod MemorySink
 pub mod FileSource
 pub mod FileSink
+pub mod RealClock
