@@ -41,13 +41,15 @@ failures = []
 runs = 0
 
 
-def run(program, folder, words, closed=()):
-    """How a run ends that begins with these descriptors closed: its status, and what came to standard output."""
+def run(program, folder, words, closed=(), before=lambda: None):
+    """How a run ends that begins with these descriptors closed: its status, and what came to standard output. Its process
+    does what comes before."""
     global runs
     runs += 1
     with tempfile.TemporaryFile() as out:
         process = subprocess.Popen([program, *words], cwd=folder, stdin=subprocess.DEVNULL, stdout=out,
-                                   stderr=subprocess.DEVNULL, preexec_fn=lambda: [os.close(it) for it in closed])
+                                   stderr=subprocess.DEVNULL,
+                                   preexec_fn=lambda: [before(), *(os.close(it) for it in closed)])
         try:
             status = process.wait(LONGEST)
         except subprocess.TimeoutExpired:
@@ -220,8 +222,14 @@ def main():
         try_full_tail(program, room)
         try_changed_mbox(program, room)
         try_words(program, room)
-    print(f"{runs} runs over real files; {len(failures)} things were otherwise than they should be")
+    end("over real files")
+
+
+def end(what):
+    """Says how many runs there were, and ends with status 0 where each was as it should be."""
+    print(f"{runs} runs {what}; {len(failures)} things were otherwise than they should be")
     sys.exit(bool(failures))
 
 
-main()
+if __name__ == "__main__":
+    main()

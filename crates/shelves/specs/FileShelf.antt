@@ -8,6 +8,7 @@ use Rattle.shelves.specs.declared.place_file.PlaceFile.{PlaceFile}
 use Rattle.shelves.specs.declared.place_file.PlaceFile.TheVariants.{Unopened, Open, Absent, Broken}
 use Rattle.shelves.specs.declared.file_shelf.PlaceFiles.{PlaceFiles}
 use Rattle.shelves.specs.declared.file_shelf.PlaceNames.{PlaceNames}
+use Rattle.shelves.specs.declared.file_shelf.FileShelf.{FileShelf}
 use Rattle.shelves.specs.Folder.{IsNamed, emptied}
 
 -- what a file holds, where it is known: kept is what the folder has by its name
@@ -43,11 +44,6 @@ name_at A names = names.a.now
 name_at B names = names.b.now
 name_at T names = names.t.now
 
--- what the file of the place holds, where it is known
-abbrev pub content_at : {F : Type 0} → (F → Option (List ℕ)) → (List ℕ → Option (List ℕ)) → Place → PlaceNames
-    → PlaceFiles F → Option (List ℕ)
-content_at holds kept place names files = content_of holds (kept (name_at place names)) (file_of place files)
-
 -- the file of the place is absent so far
 abbrev pub IsAbsent : {F : Type 0} → Place → PlaceFiles F → Type 0
 IsAbsent place files = file_of place files ≡ Absent
@@ -61,3 +57,21 @@ abbrev pub OtherFilesStay : {F : Type 0} → Place → PlaceFiles F → PlaceFil
 OtherFilesStay A old new = (new.b ≡ old.b) × (new.t ≡ old.t)
 OtherFilesStay B old new = (new.a ≡ old.a) × (new.t ≡ old.t)
 OtherFilesStay T old new = (new.a ≡ old.a) × (new.b ≡ old.b)
+
+-- what the file of the place holds, where it is known
+abbrev pub content_at : {D F : Type 0} → (D → List ℕ → Option (List ℕ)) → (F → Option (List ℕ)) → Place → FileShelf D F
+    → Option (List ℕ)
+content_at kept holds place shelf =
+    content_of holds (kept shelf.folder (name_at place shelf.names)) (file_of place shelf.files)
+
+-- where it is open, it was opened or made by the name of the place
+abbrev pub HasItsName : {D F : Type 0} → (F → Option (List ℕ)) → Place → FileShelf D F → Type 0
+HasItsName name_of place shelf = IsOpenedBy name_of (name_at place shelf.names) (file_of place shelf.files)
+
+-- where it is open, what was synced is all that it holds
+abbrev pub IsSyncedAt : {D F : Type 0} → (F → Option (List ℕ)) → (F → Option (List ℕ)) → Place → FileShelf D F → Type 0
+IsSyncedAt synced holds place shelf = IsSynced synced holds (file_of place shelf.files)
+
+-- why a call on the place failed: the folder did, or the file can't be opened
+abbrev pub FailsAt : {D F : Type 0} → (D → ℕ) → Place → FileShelf D F → FileShelf D F → Type 0
+FailsAt faults place old new = FailsFor (faults old.folder) (faults new.folder) (file_of place new.files)

@@ -40,7 +40,7 @@ struct PlaceFiles<F> {
 
 impl<'a, D: Folder> FileShelf<'a, D> {
     ghost use Rattle.outside.specs.declared.shelf.Place.{Place};
-    ghost use Rattle.shelves.specs.FileShelf.{file_of, name_at};
+    ghost use Rattle.shelves.specs.FileShelf.{file_of};
     ghost use Rattle.shelves.specs.declared.place_file.PlaceFile.TheVariants.{Unopened};
 
     /// The files of these names in a folder. Nothing is opened yet. Takes no memory.
@@ -106,7 +106,7 @@ impl<'a, R: Files> FileShelf<'a, RealFolder<'a, R>> {
 impl<'a, D: Folder> Shelf for FileShelf<'a, D> {
     ghost use Rattle.outside.specs.Crash.{RisesUpTo};
     ghost use Rattle.shelves.specs.Folder.{Reaches, written_over, cut_off};
-    ghost use Rattle.shelves.specs.FileShelf.{file_of, name_at, content_at, IsAbsent, IsBroken, OtherFilesStay, FailsFor, IsOpenedBy, IsSynced};
+    ghost use Rattle.shelves.specs.FileShelf.{content_at, HasItsName, IsSyncedAt, FailsAt, IsAbsent, IsBroken, OtherFilesStay};
 
     ghost faults = { λ shelf. shelf.faults.total };
 
@@ -121,14 +121,11 @@ impl<'a, D: Folder> Shelf for FileShelf<'a, D> {
     fn size(&mut self, place: Place) -> Result<u64, Failed>
         ensures cause { HasCause (⟦<FileShelf<'a, D> as Shelf>⟧.faults self.old)
             (⟦<FileShelf<'a, D> as Shelf>⟧.faults self.new) result }
-        ensures size { IfOk result (λ n. IfSome (content_at D.holds (D.kept self.old.folder) place self.old.names self.old.files)
+        ensures size { IfOk result (λ n. IfSome (content_at D.kept D.holds place self.old)
             (λ bytes. n ≡ length bytes)) }
-        ensures content { content_at D.holds (D.kept self.new.folder) place self.new.names self.new.files
-            ≡ content_at D.holds (D.kept self.old.folder) place self.old.names self.old.files }
-        ensures named { IsOpenedBy D.name_of (name_at place self.old.names) (file_of place self.old.files)
-            → IsOpenedBy D.name_of (name_at place self.old.names) (file_of place self.new.files) }
-        ensures why { OnErr result (FailsFor (D.faults self.old.folder) (D.faults self.new.folder)
-            (file_of place self.new.files)) }
+        ensures content { content_at D.kept D.holds place self.new ≡ content_at D.kept D.holds place self.old }
+        ensures named { HasItsName D.name_of place self.old → HasItsName D.name_of place self.new }
+        ensures why { OnErr result (FailsAt D.faults place self.old self.new) }
         ensures absent { IsAbsent place self.old.files → result ≡ Ok 0 }
         ensures broken { IsBroken place self.old.files → IsErr result }
         ensures stays { IsAbsent place self.old.files → IsAbsent place self.new.files }
@@ -149,16 +146,13 @@ impl<'a, D: Folder> Shelf for FileShelf<'a, D> {
         ensures bound { ReadsAtMost result buf.new }
         ensures cause { HasCause (⟦<FileShelf<'a, D> as Shelf>⟧.faults self.old)
             (⟦<FileShelf<'a, D> as Shelf>⟧.faults self.new) result }
-        ensures count { IfOk result (λ n. IfSome (content_at D.holds (D.kept self.old.folder) place self.old.names self.old.files)
+        ensures count { IfOk result (λ n. IfSome (content_at D.kept D.holds place self.old)
             (λ bytes. n ≡ min (length buf.old) (length bytes - at))) }
-        ensures bytes { IfOk result (λ n. IfSome (content_at D.holds (D.kept self.old.folder) place self.old.names self.old.files)
+        ensures bytes { IfOk result (λ n. IfSome (content_at D.kept D.holds place self.old)
             (λ bytes. take n buf.new ≡ take n (drop at bytes))) }
-        ensures content { content_at D.holds (D.kept self.new.folder) place self.new.names self.new.files
-            ≡ content_at D.holds (D.kept self.old.folder) place self.old.names self.old.files }
-        ensures named { IsOpenedBy D.name_of (name_at place self.old.names) (file_of place self.old.files)
-            → IsOpenedBy D.name_of (name_at place self.old.names) (file_of place self.new.files) }
-        ensures why { OnErr result (FailsFor (D.faults self.old.folder) (D.faults self.new.folder)
-            (file_of place self.new.files)) }
+        ensures content { content_at D.kept D.holds place self.new ≡ content_at D.kept D.holds place self.old }
+        ensures named { HasItsName D.name_of place self.old → HasItsName D.name_of place self.new }
+        ensures why { OnErr result (FailsAt D.faults place self.old self.new) }
         ensures absent { IsAbsent place self.old.files → result ≡ Ok 0 }
         ensures broken { IsBroken place self.old.files → IsErr result }
         ensures stays { IsAbsent place self.old.files → IsAbsent place self.new.files }
@@ -178,13 +172,11 @@ impl<'a, D: Folder> Shelf for FileShelf<'a, D> {
     fn write_at(&mut self, place: Place, at: u64, bytes: &[u8]) -> Result<(), Failed>
         ensures cause { HasCause (⟦<FileShelf<'a, D> as Shelf>⟧.faults self.old)
             (⟦<FileShelf<'a, D> as Shelf>⟧.faults self.new) result }
-        ensures content { OnOk result (Reaches at (content_at D.holds (D.kept self.old.folder) place self.old.names self.old.files)
-            → content_at D.holds (D.kept self.new.folder) place self.new.names self.new.files
-            ≡ written_over at bytes.now (content_at D.holds (D.kept self.old.folder) place self.old.names self.old.files)) }
-        ensures named { IsOpenedBy D.name_of (name_at place self.old.names) (file_of place self.old.files)
-            → IsOpenedBy D.name_of (name_at place self.old.names) (file_of place self.new.files) }
-        ensures why { OnErr result (FailsFor (D.faults self.old.folder) (D.faults self.new.folder)
-            (file_of place self.new.files)) }
+        ensures content { OnOk result (Reaches at (content_at D.kept D.holds place self.old)
+            → content_at D.kept D.holds place self.new
+            ≡ written_over at bytes.now (content_at D.kept D.holds place self.old)) }
+        ensures named { HasItsName D.name_of place self.old → HasItsName D.name_of place self.new }
+        ensures why { OnErr result (FailsAt D.faults place self.old self.new) }
         ensures made { OnOk result (¬ IsAbsent place self.new.files) }
         ensures broken { IsBroken place self.old.files → IsErr result }
         ensures others { OtherFilesStay place self.old.files self.new.files }
@@ -204,13 +196,12 @@ impl<'a, D: Folder> Shelf for FileShelf<'a, D> {
     fn cut(&mut self, place: Place, size: u64) -> Result<(), Failed>
         ensures cause { HasCause (⟦<FileShelf<'a, D> as Shelf>⟧.faults self.old)
             (⟦<FileShelf<'a, D> as Shelf>⟧.faults self.new) result }
-        ensures content { OnOk result (Reaches size (content_at D.holds (D.kept self.old.folder) place self.old.names self.old.files)
-            → content_at D.holds (D.kept self.new.folder) place self.new.names self.new.files
-            ≡ cut_off size (content_at D.holds (D.kept self.old.folder) place self.old.names self.old.files)) }
-        ensures named { IsOpenedBy D.name_of (name_at place self.old.names) (file_of place self.old.files)
-            → IsOpenedBy D.name_of (name_at place self.old.names) (file_of place self.new.files) }
-        ensures why { OnErr result (FailsFor (D.faults self.old.folder) (D.faults self.new.folder)
-            (file_of place self.new.files) ⊎ (IsAbsent place self.new.files × (0 < size))) }
+        ensures content { OnOk result (Reaches size (content_at D.kept D.holds place self.old)
+            → content_at D.kept D.holds place self.new
+            ≡ cut_off size (content_at D.kept D.holds place self.old)) }
+        ensures named { HasItsName D.name_of place self.old → HasItsName D.name_of place self.new }
+        ensures why { OnErr result (FailsAt D.faults place self.old self.new
+            ⊎ (IsAbsent place self.new.files × (0 < size))) }
         ensures nothing { IsAbsent place self.old.files → size ≡ 0 → IsOk result }
         ensures absent { IsAbsent place self.old.files → 0 < size → IsErr result }
         ensures broken { IsBroken place self.old.files → IsErr result }
@@ -231,13 +222,10 @@ impl<'a, D: Folder> Shelf for FileShelf<'a, D> {
     fn sync(&mut self, place: Place) -> Result<(), Failed>
         ensures cause { HasCause (⟦<FileShelf<'a, D> as Shelf>⟧.faults self.old)
             (⟦<FileShelf<'a, D> as Shelf>⟧.faults self.new) result }
-        ensures durable { OnOk result (IsSynced D.synced D.holds (file_of place self.new.files)) }
-        ensures content { content_at D.holds (D.kept self.new.folder) place self.new.names self.new.files
-            ≡ content_at D.holds (D.kept self.old.folder) place self.old.names self.old.files }
-        ensures named { IsOpenedBy D.name_of (name_at place self.old.names) (file_of place self.old.files)
-            → IsOpenedBy D.name_of (name_at place self.old.names) (file_of place self.new.files) }
-        ensures why { OnErr result (FailsFor (D.faults self.old.folder) (D.faults self.new.folder)
-            (file_of place self.new.files)) }
+        ensures durable { OnOk result (IsSyncedAt D.synced D.holds place self.new) }
+        ensures content { content_at D.kept D.holds place self.new ≡ content_at D.kept D.holds place self.old }
+        ensures named { HasItsName D.name_of place self.old → HasItsName D.name_of place self.new }
+        ensures why { OnErr result (FailsAt D.faults place self.old self.new) }
         ensures nothing { IsAbsent place self.old.files → IsOk result }
         ensures broken { IsBroken place self.old.files → IsErr result }
         ensures stays { IsAbsent place self.old.files → IsAbsent place self.new.files }
