@@ -1,8 +1,10 @@
 //! Tests of calls that no script reaches: keys, cards and their bounds, lists of chunks, limits of a mailbox, citations,
-//! deadlines, rosters and states of chats, pages, devices and the disk model, saves over slots that no run meets, and weights. It
-//! has no code of its own.
+//! deadlines, rosters and states of chats, pages, devices, the adapters of real ones, the disk model, saves over slots that
+//! no run meets, and weights. It has no code of its own.
 #![tactic(auto)]
 
+#[cfg(test)]
+mod adapters;
 #[cfg(test)]
 mod asserts;
 #[cfg(test)]
