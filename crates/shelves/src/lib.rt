@@ -1,4 +1,5 @@
-//! The shelves of a run: one in memory, whose calls can fail and whose crashes can be looked at, and one of three files.
+//! The shelves of a run: one in memory, whose calls can fail and whose crashes can be looked at, and one of three files in a
+//! folder, which is the real one or in memory.
 #![tactic(auto)]
 
 mod call;
