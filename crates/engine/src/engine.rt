@@ -156,6 +156,7 @@ impl Engine {
         ensures mailbox { self.new.mailbox ≡ self.old.mailbox }
         ensures touched { OnOk result (AreAllChats self.old.mailbox self.new.touched) }
         ensures fresh { OnOk result (self.new.stale ≡ false) }
+        ensures stale { OnErr result (self.new.stale ≡ true) }
         ensures cost { steps.new ≤ steps.old + load self.old.mailbox }
     {
         self.stale = true;
