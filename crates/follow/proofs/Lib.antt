@@ -1,5 +1,6 @@
 -- Lemmas of this crate, and rows that compute.
 pub mod Clocks
+pub mod Crashes
 pub mod Followed
 pub mod Refused
 pub mod Replied

@@ -14,7 +14,7 @@ use Rattle.outside.specs.Moments.{LeavesOnly}
 use Rattle.outside.specs.Places.{Places}
 use Rattle.outside.proofs.Moments.{started}
 use Rattle.outside.specs.declared.faults.Failed.{Failed}
-use Rattle.follow.specs.Outcome.{Agrees, EndsBare, Given, LastIf, MayStandIf, PutsAnswer, PutsLine, PutsWhole, TakesAll, TellsSteps}
+use Rattle.follow.specs.Outcome.{Agrees, EndsBare, Given, LastIf, MayStandIf, PutsLine, PutsOutcome, PutsWhole, TakesAll, TellsSteps}
 use Rattle.follow.specs.Replies.{Puts}
 use Rattle.follow.specs.Statuses.{line_of, status_of}
 
@@ -71,57 +71,80 @@ agrees_refused o old new why s puts (inl is) = subst (Agrees o) (sym is) (by o w
 
 -- ---- what was put
 
-pub puts_ok : (o : Result Bytes Refusal) (old new : Option Bytes) → Puts o old new (Ok tt) → PutsAnswer old new o status.Ok
-puts_ok (Ok text) old new puts = puts
-puts_ok (Err why) old new puts = absurd puts
+pub puts_ok : (o : Result Bytes Refusal) (old new : Option Bytes) (rose : Type 0) → Puts o old new (Ok tt) → PutsOutcome old new rose o status.Ok
+puts_ok (Ok text) old new rose puts = puts
+puts_ok (Err why) old new rose puts = absurd puts
 
-pub puts_write : (o : Result Bytes Refusal) (old new : Option Bytes) → Puts o old new (Err refusal.Write) → PutsAnswer old new o status.Write
-puts_write (Ok text) old new puts = puts
-puts_write (Err why) old new puts = absurd puts
+pub puts_write : (o : Result Bytes Refusal) (old new : Option Bytes) (rose : Type 0) → Puts o old new (Err refusal.Write) → PutsOutcome old new rose o status.Write
+puts_write (Ok text) old new rose puts = puts
+puts_write (Err why) old new rose puts = absurd puts
 
--- no answer is put
-pub puts_refused : (o : Result Bytes Refusal) (old new : Option Bytes) (why : Refusal) (s : Status) → (why ≡ refusal.Write → ⊥) → Said why s → PutsAnswer old new o s
-puts_refused (Err e) old new why s write (inr memory) = subst (PutsAnswer old new (Err e)) (sym memory) tt
-puts_refused (Ok text) old new why s write (inr memory) = subst (PutsAnswer old new (Ok text)) (sym memory) tt
-puts_refused o old new why s write (inl is) = subst (PutsAnswer old new o) (sym is) (by o why write)
+-- a line was put for this refusal: its own, or that memory ran out
+abbrev pub PutsSaid : Option Bytes → Option Bytes → Type 0 → Refusal → Status → Type 0
+PutsSaid old new rose why s = (said : Refusal) × (s ≡ status_of said) × ((said ≡ why) ⊎ (said ≡ refusal.Memory)) × PutsWhole old new (line_of said) rose
+
+pub puts_refused : (o : Result Bytes Refusal) (old new : Option Bytes) (rose : Type 0) (why : Refusal) (s : Status) → (why ≡ refusal.Write → ⊥) → Puts o old old (Err why) → PutsSaid old new rose why s → PutsOutcome old new rose o s
+puts_refused o old new rose why s write puts (said, is, inr memory, line) = subst (PutsOutcome old new rose o) (sym (is ∙ ap status_of memory)) (free o)
   where
-    by : (o : Result Bytes Refusal) (why : Refusal) → (why ≡ refusal.Write → ⊥) → PutsAnswer old new o (status_of why)
-    by (Err e) why w = tt
-    by (Ok text) refusal.Usage w = tt
-    by (Ok text) (refusal.Read input) w = tt
-    by (Ok text) (refusal.Steps line) w = tt
-    by (Ok text) refusal.Disk w = tt
-    by (Ok text) refusal.Write w = absurd (w refl)
-    by (Ok text) refusal.Memory w = tt
-    by (Ok text) refusal.Full w = tt
-    by (Ok text) refusal.NoChat w = tt
-    by (Ok text) (refusal.Damaged place at) w = tt
-    by (Ok text) (refusal.Short input) w = tt
-    by (Ok text) (refusal.OtherFiles input) w = tt
-    by (Ok text) (refusal.OtherMe other me) w = tt
-    by (Ok text) (refusal.Endless input) w = tt
-    by (Ok text) refusal.NoApp w = tt
+    free : (o : Result Bytes Refusal) → PutsOutcome old new rose o status.Memory
+    free (Ok text) = tt
+    free (Err e) = tt
+puts_refused o old new rose why s write puts (said, is, inl same, line) =
+    subst (PutsOutcome old new rose o) (sym (is ∙ ap status_of same)) (by o why write puts (subst (λ (e : Refusal). PutsWhole old new (line_of e) rose) same line))
+  where
+    own : (e why : Refusal) → ◌≡◌ {A = Result Bytes Refusal} (Err e) (Err why) → PutsWhole old new (line_of why) rose → PutsWhole old new (line_of e) rose
+    own e why is line = (let same : why ≡ e = cc in subst (λ (e : Refusal). PutsWhole old new (line_of e) rose) same line)
+
+    by : (o : Result Bytes Refusal) (why : Refusal) → (why ≡ refusal.Write → ⊥) → Puts o old old (Err why) → PutsWhole old new (line_of why) rose → PutsOutcome old new rose o (status_of why)
+    by (Ok text) refusal.Usage w p line = tt
+    by (Ok text) (refusal.Read input) w p line = tt
+    by (Ok text) (refusal.Steps number) w p line = tt
+    by (Ok text) refusal.Disk w p line = tt
+    by (Ok text) refusal.Write w p line = absurd (w refl)
+    by (Ok text) refusal.Memory w p line = tt
+    by (Ok text) refusal.Full w p line = tt
+    by (Ok text) refusal.NoChat w p line = tt
+    by (Ok text) (refusal.Damaged place at) w p line = tt
+    by (Ok text) (refusal.Short input) w p line = tt
+    by (Ok text) (refusal.OtherFiles input) w p line = tt
+    by (Ok text) (refusal.OtherMe other me) w p line = tt
+    by (Ok text) (refusal.Endless input) w p line = tt
+    by (Ok text) refusal.NoApp w p line = tt
+    by (Err e) refusal.Usage w p line = own e refusal.Usage p line
+    by (Err e) (refusal.Read input) w p line = tt
+    by (Err e) (refusal.Steps number) w p line = own e (refusal.Steps number) p line
+    by (Err e) refusal.Disk w p line = tt
+    by (Err e) refusal.Write w p line = absurd (w refl)
+    by (Err e) refusal.Memory w p line = tt
+    by (Err e) refusal.Full w p line = own e refusal.Full p line
+    by (Err e) refusal.NoChat w p line = own e refusal.NoChat p line
+    by (Err e) (refusal.Damaged place at) w p line = own e (refusal.Damaged place at) p line
+    by (Err e) (refusal.Short input) w p line = own e (refusal.Short input) p line
+    by (Err e) (refusal.OtherFiles input) w p line = own e (refusal.OtherFiles input) p line
+    by (Err e) (refusal.OtherMe other me) w p line = own e (refusal.OtherMe other me) p line
+    by (Err e) (refusal.Endless input) w p line = tt
+    by (Err e) refusal.NoApp w p line = own e refusal.NoApp p line
 
 -- ---- where nothing failed, an answer was put whole, or memory ran out
 
-pub answered : (old new : Option Bytes) (o : Result Bytes Refusal) (text : Bytes) (s : Status) → o ≡ Ok text → Agrees o s → PutsAnswer old new o s
+pub answered : (old new : Option Bytes) (rose : Type 0) (o : Result Bytes Refusal) (text : Bytes) (s : Status) → o ≡ Ok text → Agrees o s → PutsOutcome old new rose o s
     → ¬ (s ≡ status.Read) → ¬ (s ≡ status.Endless) → ¬ (s ≡ status.Disk) → ¬ (s ≡ status.Write) → (s ≡ status.Ok × Appends old new text) ⊎ (s ≡ status.Memory)
-answered old new (Err why) text s is agrees puts read endless disk write = absurd cc
-answered old new (Ok t) text status.Ok is agrees puts read endless disk write = (let same : t ≡ text = cc in inl (refl, subst (λ put. Appends old new put) same puts))
-answered old new (Ok t) text status.Memory is agrees puts read endless disk write = inr refl
-answered old new (Ok t) text status.Read is agrees puts read endless disk write = absurd (read refl)
-answered old new (Ok t) text status.Endless is agrees puts read endless disk write = absurd (endless refl)
-answered old new (Ok t) text status.Write is agrees puts read endless disk write = absurd (write refl)
-answered old new (Ok t) text status.Disk is agrees puts read endless disk write = absurd (disk refl)
-answered old new (Ok t) text status.Usage is agrees puts read endless disk write = absurd agrees
-answered old new (Ok t) text status.Steps is agrees puts read endless disk write = absurd agrees
-answered old new (Ok t) text status.Full is agrees puts read endless disk write = absurd agrees
-answered old new (Ok t) text status.NoChat is agrees puts read endless disk write = absurd agrees
-answered old new (Ok t) text status.NoApp is agrees puts read endless disk write = absurd agrees
-answered old new (Ok t) text status.Damaged is agrees puts read endless disk write = absurd agrees
-answered old new (Ok t) text status.Short is agrees puts read endless disk write = absurd agrees
-answered old new (Ok t) text status.OtherFiles is agrees puts read endless disk write = absurd agrees
-answered old new (Ok t) text status.OtherMe is agrees puts read endless disk write = absurd agrees
+answered old new rose (Err why) text s is agrees puts read endless disk write = absurd cc
+answered old new rose (Ok t) text status.Ok is agrees puts read endless disk write = (let same : t ≡ text = cc in inl (refl, subst (λ put. Appends old new put) same puts))
+answered old new rose (Ok t) text status.Memory is agrees puts read endless disk write = inr refl
+answered old new rose (Ok t) text status.Read is agrees puts read endless disk write = absurd (read refl)
+answered old new rose (Ok t) text status.Endless is agrees puts read endless disk write = absurd (endless refl)
+answered old new rose (Ok t) text status.Write is agrees puts read endless disk write = absurd (write refl)
+answered old new rose (Ok t) text status.Disk is agrees puts read endless disk write = absurd (disk refl)
+answered old new rose (Ok t) text status.Usage is agrees puts read endless disk write = absurd agrees
+answered old new rose (Ok t) text status.Steps is agrees puts read endless disk write = absurd agrees
+answered old new rose (Ok t) text status.Full is agrees puts read endless disk write = absurd agrees
+answered old new rose (Ok t) text status.NoChat is agrees puts read endless disk write = absurd agrees
+answered old new rose (Ok t) text status.NoApp is agrees puts read endless disk write = absurd agrees
+answered old new rose (Ok t) text status.Damaged is agrees puts read endless disk write = absurd agrees
+answered old new rose (Ok t) text status.Short is agrees puts read endless disk write = absurd agrees
+answered old new rose (Ok t) text status.OtherFiles is agrees puts read endless disk write = absurd agrees
+answered old new rose (Ok t) text status.OtherMe is agrees puts read endless disk write = absurd agrees
 
 -- the line of a read fault has its cause
 pub not_read : (old new : Option Bytes) (cause : Refusal → Type 0) (rose : Type 0) (s : Status) → PutsLine old new cause rose s
@@ -212,7 +235,7 @@ put_whole old new before after chunk line (Err _) is put cause = inr (subst (λ 
 
 -- the line of a refusal, with its cause
 pub refused_line : (old new : Option Bytes) (cause : Refusal → Type 0) (rose : Type 0) (why : Refusal) (s : Status) → cause why → cause refusal.Memory
-    → (said : Refusal) × (s ≡ status_of said) × ((said ≡ why) ⊎ (said ≡ refusal.Memory)) × PutsWhole old new (line_of said) rose → PutsLine old new cause rose s
+    → PutsSaid old new rose why s → PutsLine old new cause rose s
 refused_line old new cause rose why s of_why of_memory line =
     subst (PutsLine old new cause rose) (sym line.1) (by line.0 (which line.0 line.2) line.3)
   where

@@ -327,11 +327,24 @@ Agrees (Err why) s = s ≡ status_of why
 
 -- ---- what is put
 
--- at Ok the whole answer was put, and at Write a prefix of it
-abbrev pub PutsAnswer : Option Bytes → Option Bytes → Result Bytes Refusal → Status → Type 0
-PutsAnswer old new (Ok text) status.Ok = Appends old new text
-PutsAnswer old new (Ok text) status.Write = AppendsPrefix old new text
-PutsAnswer old new _ _ = ⊤
+-- a line was put, or a prefix of it where the sink's count rose
+abbrev pub PutsWhole : Option Bytes → Option Bytes → Bytes → Type 0 → Type 0
+PutsWhole old new line out_rose = Appends old new line ⊎ (AppendsPrefix old new line × out_rose)
+
+-- Where the outcome is a refusal its own line was put, unless a device failed, an input did not end or memory ran out before.
+abbrev pub PutsRefused : Option Bytes → Option Bytes → Type 0 → Refusal → Status → Type 0
+PutsRefused old new out_rose why status.Read = ⊤
+PutsRefused old new out_rose why status.Disk = ⊤
+PutsRefused old new out_rose why status.Endless = ⊤
+PutsRefused old new out_rose why status.Memory = ⊤
+PutsRefused old new out_rose why s = PutsWhole old new (line_of why) out_rose
+
+-- At Ok the whole answer was put, and at Write a prefix of it; and where there is none, the line that says why.
+abbrev pub PutsOutcome : Option Bytes → Option Bytes → Type 0 → Result Bytes Refusal → Status → Type 0
+PutsOutcome old new out_rose (Ok text) status.Ok = Appends old new text
+PutsOutcome old new out_rose (Ok text) status.Write = AppendsPrefix old new text
+PutsOutcome old new out_rose (Ok text) _ = ⊤
+PutsOutcome old new out_rose (Err why) s = PutsRefused old new out_rose why s
 
 -- so many bytes were taken of what a source had left
 abbrev pub TakesAll : Option Bytes → Option Bytes → ℕ → Type 0
@@ -356,10 +369,6 @@ CauseOf mbox_rose steps_rose shelf_rose mbox_taken steps_taken refusal.Disk = sh
 CauseOf mbox_rose steps_rose shelf_rose mbox_taken steps_taken (refusal.Endless Mbox) = mbox_taken
 CauseOf mbox_rose steps_rose shelf_rose mbox_taken steps_taken (refusal.Endless Steps) = steps_taken
 CauseOf mbox_rose steps_rose shelf_rose mbox_taken steps_taken _ = ⊤
-
--- a line was put, or a prefix of it where the sink's count rose
-abbrev pub PutsWhole : Option Bytes → Option Bytes → Bytes → Type 0 → Type 0
-PutsWhole old new line out_rose = Appends old new line ⊎ (AppendsPrefix old new line × out_rose)
 
 -- At every other status the line of a refusal with that status and its cause was put, or a prefix of it where the sink's
 -- count rose.

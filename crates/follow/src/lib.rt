@@ -8,6 +8,6 @@ mod top;
 mod words;
 
 pub use follower::{Input, RunFault};
-pub use laws::following_the_rest;
+pub use laws::{following_the_rest, kept_changes_stay, running_after_a_crash};
 pub use status::{Refusal, Status};
 pub use top::run;

@@ -9,7 +9,7 @@ ghost use Rattle.mailbox_model.specs.Lists.{Bytes};
 ghost use Rattle.follower.specs.Spending.{RoseWithin, counts};
 ghost use Rattle.follow.specs.Replies.{Puts};
 ghost use Rattle.follow.specs.Grammar.{IsNoRequest};
-ghost use Rattle.follow.specs.Outcome.{Agrees, AsksClock, CauseOf, ClockGives, ComesWhere, EndsBare, Finds, Found, IfLentAnd, KeepsAll, LastIf, LentTells, MayStand, MayStandIf, OnLast, PutsAnswer, PutsLine, PutsWhole, TakesAll, TakesUpTo, Tells, TellsSteps, asked_cost, cost_of, follows, given_in, given_of, mbox_budget, needs_clock, outcome, result as result_of, steps_budget};
+ghost use Rattle.follow.specs.Outcome.{Agrees, AsksClock, CauseOf, ClockGives, ComesWhere, EndsBare, Finds, Found, IfLentAnd, KeepsAll, LastIf, LentTells, MayStand, MayStandIf, OnLast, PutsLine, PutsOutcome, PutsWhole, TakesAll, TakesUpTo, Tells, TellsSteps, asked_cost, cost_of, follows, given_in, given_of, mbox_budget, needs_clock, outcome, result as result_of, steps_budget};
 ghost use Rattle.follow.specs.Statuses.{line_of, status_in, status_of};
 ghost use Rattle.follow.specs.Words.{request};
 ghost use Rattle.follow.specs.declared.status.Refusal.TheVariants as refusal;
@@ -164,7 +164,7 @@ fn run_given<M: Source, S: Source, H: Shelf, C: Clock, K: Sink, L: Ledger>(
         → Agrees (outcome words.now found) result }
     ensures answer { (found : Found) → Finds (request words.now) given (M.left mbox.old) (TellsSteps given (S.left steps_file.old)) (H.seen shelf.old)
         (C.next clock.old) found
-        → PutsAnswer (K.held out.old) (K.held out.new) (outcome words.now found) result }
+        → PutsOutcome (K.held out.old) (K.held out.new) (Rose (K.faults out.old) (K.faults out.new)) (outcome words.now found) result }
     ensures crash { (found : Found) → Finds (request words.now) given (M.left mbox.old) (TellsSteps given (S.left steps_file.old)) (H.seen shelf.old)
         (C.next clock.old) found
         → LeavesOnly H.moment H.left_since shelf.old shelf.new (MayStandIf (given_in (request words.now) found) (H.may_leave shelf.old)) }
@@ -226,16 +226,16 @@ pub fn run<M: Source, S: Source, H: Shelf, C: Clock, K: Sink, L: Ledger>(
     ensures usage { ComesWhere Status.Usage (IsNoRequest words.now) result }
     ensures bare { follows (request words.now) ≡ false → EndsBare result }
     ensures write { result ≡ Status.Write → Rose (K.faults out.old) (K.faults out.new) }
-    // Where the bytes of the inputs are known, and the moment of a clock that is asked, any status but Read, Endless and
-    // Memory is that of the outcome.
+    // Where the bytes of the inputs are known, what the shelf keeps, and the moment of a clock that is asked, any status but
+    // Read, Endless, Disk and Memory is that of the outcome; and Write comes only where that is an answer.
     ensures status { (found : Found) → Finds (request words.now) (is_some steps_file.entry) (M.left mbox.old) (LentTells S.left steps_file.entry) (H.seen shelf.old)
         (C.next clock.old) found
         → Agrees (outcome words.now found) result }
 
-    // What is put.
+    // What is put: the answer, or the very line of the refusal; at Read, Endless, Disk and Memory a line with that cause.
     ensures answer { (found : Found) → Finds (request words.now) (is_some steps_file.entry) (M.left mbox.old) (LentTells S.left steps_file.entry) (H.seen shelf.old)
         (C.next clock.old) found
-        → PutsAnswer (K.held out.old) (K.held out.new) (outcome words.now found) result }
+        → PutsOutcome (K.held out.old) (K.held out.new) (Rose (K.faults out.old) (K.faults out.new)) (outcome words.now found) result }
     ensures line { PutsLine (K.held out.old) (K.held out.new) (CauseOf (Rose (M.faults mbox.old) (M.faults mbox.new))
         (IfLentAnd steps_file.entry steps_file.exit (λ before after. Rose (S.faults before) (S.faults after)))
         (Rose (H.faults shelf.old) (H.faults shelf.new)) (TakesAll (M.left mbox.old) (M.left mbox.new) mbox_budget)

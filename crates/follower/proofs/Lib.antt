@@ -8,4 +8,5 @@ pub mod Inputs
 pub mod Starting
 pub mod NextChange
 pub mod Resuming
+pub mod Counting
 mod FeedRows

@@ -30,7 +30,7 @@ returns-in-Some-clause-complete g c = rw c.in-Some.is (λ found text told is few
     let rose = Rose (g.K.Sink.faults c.args.out.now) (g.K.Sink.faults c.run_given.new.out) in
     let cause : Refusal → Type 0 = CauseOf (Rose (g.M.Source.faults c.args.mbox.now) (g.M.Source.faults c.run_given.new.mbox)) (Rose (g.S.Source.faults c.in-Some.steps_file.now) (g.S.Source.faults c.run_given.new.steps_file))
     (Rose (g.H.Shelf.faults c.args.shelf.now) (g.H.Shelf.faults c.run_given.new.shelf)) (TakesAll mbox_left mbox_after mbox_budget) (TakesAll steps_left steps_after steps_budget) in
-    answered old new (outcome c.args.words.now found) text c.run_given.result is (ran.status found told) (ran.answer found told)
+    answered old new rose (outcome c.args.words.now found) text c.run_given.result is (ran.status found told) (ran.answer found told)
     (not_read old new cause rose c.run_given.result ran.line no_mbox no_steps)
     (not_endless_at (follows (request c.args.words.now)) c.run_given.result (λ yes. not_endless old new cause rose c.run_given.result ran.line
     (not_all mbox_left mbox_after found.mbox mbox_budget (told yes).mbox_is few) (not_all_steps steps_left steps_after found.steps steps_budget (told yes).steps_is few_steps)) ran.bare)
@@ -61,7 +61,7 @@ returns-in-None-clause-complete g c = rw c.in-None.is (λ found text told is few
     let rose = Rose (g.K.Sink.faults c.args.out.now) (g.K.Sink.faults c.run_given-in-None.new.out) in
     let cause : Refusal → Type 0 = CauseOf (Rose (g.M.Source.faults c.args.mbox.now) (g.M.Source.faults c.run_given-in-None.new.mbox)) (Rose 0 0)
     (Rose (g.H.Shelf.faults c.args.shelf.now) (g.H.Shelf.faults c.run_given-in-None.new.shelf)) (TakesAll mbox_left mbox_after mbox_budget) (TakesAll (Some []) (Some []) steps_budget) in
-    answered old new (outcome c.args.words.now found) text c.run_given-in-None.result is (ran.status found told) (ran.answer found told)
+    answered old new rose (outcome c.args.words.now found) text c.run_given-in-None.result is (ran.status found told) (ran.answer found told)
     (not_read old new cause rose c.run_given-in-None.result ran.line no_mbox (λ none. absurd (omega (arith, none))))
     (not_endless_at (follows (request c.args.words.now)) c.run_given-in-None.result (λ yes. not_endless old new cause rose c.run_given-in-None.result ran.line
     (not_all mbox_left mbox_after found.mbox mbox_budget (told yes).mbox_is few) (not_all (Some []) (Some []) [] steps_budget refl (omega (arith)))) ran.bare)
@@ -72,6 +72,9 @@ returns-in-None-clause-complete g c = rw c.in-None.is (λ found text told is few
 
 pub returns-in-Some-clause-answer : goal.returns-in-Some-clause-answer
 returns-in-Some-clause-answer g c = rw c.in-Some.is c.run_given.ensures.answer
+
+pub returns-in-None-clause-answer : goal.returns-in-None-clause-answer
+returns-in-None-clause-answer g c = rw c.in-None.is c.run_given-in-None.ensures.answer
 
 -- ---- what is kept
 

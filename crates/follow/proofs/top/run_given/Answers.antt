@@ -1,13 +1,13 @@
-use Rattle.std.proofs.Common.{rules, ◌≡◌, ◌⊎◌, Err, subst}
+use Rattle.std.proofs.Common.{rules, ◌≡◌, Err, subst}
 use Rattle.outside.specs.Causes.{Rose}
-use Rattle.follow.specs.Outcome.{CauseOf, LastIf, PutsWhole, TakesAll, given_in, mbox_budget, outcome, steps_budget}
+use Rattle.follow.specs.Outcome.{CauseOf, LastIf, TakesAll, given_in, mbox_budget, outcome, steps_budget}
 use Rattle.follow.specs.Replies.{Puts}
-use Rattle.follow.specs.Statuses.{line_of, status_of}
+use Rattle.follow.specs.Statuses.{status_of}
 use Rattle.follow.specs.Words.{request}
 use Rattle.follow.specs.declared.status.Refusal.{Refusal}
 use Rattle.follow.specs.declared.status.Refusal.TheVariants as refusal
 use Rattle.follow.proofs.Clocks.{AsksClock-weaker}
-use Rattle.follow.proofs.Refused.{agrees_ok, agrees_refused, agrees_write, bare_said, last_said, not_memory, puts_ok, puts_refused, puts_write, refused_line, said_memory}
+use Rattle.follow.proofs.Refused.{PutsSaid, agrees_ok, agrees_refused, agrees_write, bare_said, last_said, not_memory, puts_ok, puts_refused, puts_write, refused_line, said_memory}
 use Rattle.follow.proofs.top.run_given.Goals as goal
 
 pub returns-in-Ok-clause-clock : goal.returns-in-Ok-clause-clock
@@ -24,7 +24,7 @@ returns-in-Ok-clause-status g c = λ found told.
 
 pub returns-in-Ok-clause-answer : goal.returns-in-Ok-clause-answer
 returns-in-Ok-clause-answer g c = λ found told.
-    puts_ok (outcome c.args.words.now found) (g.K.Sink.held c.args.out.now) (g.K.Sink.held c.reply.new.out) (c.in-Ok.ensures.puts found told)
+    puts_ok (outcome c.args.words.now found) (g.K.Sink.held c.args.out.now) (g.K.Sink.held c.reply.new.out) _ (c.in-Ok.ensures.puts found told)
 
 pub returns-in-Ok-clause-lasting : goal.returns-in-Ok-clause-lasting
 returns-in-Ok-clause-lasting g c = c.in-Ok.ensures.lasting
@@ -42,7 +42,7 @@ returns-in-Err-clause-answer g c = λ found told.
     let is : c.in-Err.why ≡ refusal.Write = search rules in
     let old = g.K.Sink.held c.args.out.now in
     let new = g.K.Sink.held c.reply.new.out in
-    puts_write (outcome c.args.words.now found) old new
+    puts_write (outcome c.args.words.now found) old new _
     (subst (λ (why : Refusal). Puts (outcome c.args.words.now found) old new (Err why)) is (c.in-Err.ensures.puts found told))
 
 pub returns-in-Err-2-clause-status : goal.returns-in-Err-2-clause-status
@@ -53,17 +53,21 @@ returns-in-Err-2-clause-status g c = λ found told.
 pub returns-in-Err-2-clause-answer : goal.returns-in-Err-2-clause-answer
 returns-in-Err-2-clause-answer g c = λ found told.
     let other : c.in-Err.why ≡ refusal.Write → ⊥ = search rules in
-    puts_refused (outcome c.args.words.now found) (g.K.Sink.held c.args.out.now) (g.K.Sink.held c.refuse.new.out) c.in-Err.why c.refuse.result other c.refuse.ensures.status
+    let o = outcome c.args.words.now found in
+    let K = g.K.Sink in
+    let nothing = c.in-Err.ensures.nothing other in
+    puts_refused o (K.held c.args.out.now) (K.held c.refuse.new.out) (Rose (K.faults c.args.out.now) (K.faults c.refuse.new.out)) c.in-Err.why c.refuse.result other
+    (subst (λ out. Puts o (K.held c.args.out.now) (K.held out) (Err c.in-Err.why)) nothing (c.in-Err.ensures.puts found told))
+    (subst (λ before. PutsSaid (K.held before) (K.held c.refuse.new.out) (Rose (K.faults before) (K.faults c.refuse.new.out)) c.in-Err.why c.refuse.result) nothing c.refuse.ensures.line)
 
 pub returns-in-Err-2-clause-line : goal.returns-in-Err-2-clause-line
 returns-in-Err-2-clause-line g c =
     let other : c.in-Err.why ≡ refusal.Write → ⊥ = search rules in
+    let K = g.K.Sink in
     let cause : Refusal → Type 0 = CauseOf (Rose (g.M.Source.faults c.args.mbox.now) (g.M.Source.faults c.reply.new.mbox)) (Rose (g.S.Source.faults c.args.steps_file.now) (g.S.Source.faults c.reply.new.steps_file))
     (Rose (g.H.Shelf.faults c.args.shelf.now) (g.H.Shelf.faults c.reply.new.shelf)) (TakesAll (g.M.Source.left c.args.mbox.now) (g.M.Source.left c.reply.new.mbox) mbox_budget) (TakesAll (g.S.Source.left c.args.steps_file.now) (g.S.Source.left c.reply.new.steps_file) steps_budget) in
-    refused_line (g.K.Sink.held c.args.out.now) (g.K.Sink.held c.refuse.new.out) cause (Rose (g.K.Sink.faults c.args.out.now) (g.K.Sink.faults c.refuse.new.out)) c.in-Err.why c.refuse.result c.in-Err.ensures.cause tt
-    (subst (λ before. (said : Refusal) × (c.refuse.result ≡ status_of said) × ((said ≡ c.in-Err.why) ⊎ (said ≡ refusal.Memory))
-    × PutsWhole (g.K.Sink.held before) (g.K.Sink.held c.refuse.new.out) (line_of said) (Rose (g.K.Sink.faults before) (g.K.Sink.faults c.refuse.new.out)))
-    (c.in-Err.ensures.nothing other) c.refuse.ensures.line)
+    refused_line (K.held c.args.out.now) (K.held c.refuse.new.out) cause (Rose (K.faults c.args.out.now) (K.faults c.refuse.new.out)) c.in-Err.why c.refuse.result c.in-Err.ensures.cause tt
+    (subst (λ before. PutsSaid (K.held before) (K.held c.refuse.new.out) (Rose (K.faults before) (K.faults c.refuse.new.out)) c.in-Err.why c.refuse.result) (c.in-Err.ensures.nothing other) c.refuse.ensures.line)
 
 pub returns-in-Err-2-clause-clock : goal.returns-in-Err-2-clause-clock
 returns-in-Err-2-clause-clock g c = AsksClock-weaker _ _ _ _ _ _ (λ memory. said_memory c.in-Err.why c.refuse.result c.refuse.ensures.status memory) c.in-Err.ensures.clock
