@@ -31,11 +31,27 @@ impl Pair {
     pub fn make<L: Ledger>(&mut self, change: Change, steps: &mut Steps<L>) -> Result<bool, Stop>
         requires { IsValidChange change }
     {
-        let copy = copy_of(&change)?;
-        let kept = is_made(self.kept.apply(copy, steps))?;
+        let kept = make_in(&mut self.kept, &change, steps)?;
         let anew = is_made(self.anew.apply(change, steps))?;
         Ok(kept && anew)
     }
+}
+
+/// Makes a change in an engine. One to which memory is refused is built anew, and makes it then: so the pages of an engine that
+/// was stale are compared too, where one allocation of the program is made to fail.
+fn make_in<L: Ledger>(
+    engine: &mut Engine,
+    change: &Change,
+    steps: &mut Steps<L>,
+) -> Result<bool, Stop>
+    requires { IsValidChange change.now }
+{
+    let applied = engine.apply(copy_of(change)?, steps);
+    if matches!(applied, Err(ApplyFault::Memory)) {
+        engine.rebuild(steps)?;
+        return is_made(engine.apply(copy_of(change)?, steps));
+    }
+    is_made(applied)
 }
 
 /// Whether there was a place for a change.
