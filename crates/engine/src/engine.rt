@@ -6,7 +6,7 @@ ghost use Rattle.mailbox_model.specs.Contacts.{contacts};
 ghost use Rattle.mailbox_model.specs.Mailbox.{after, empty_mailbox, full, IsMailbox, IsValidChange};
 ghost use Rattle.mailbox_model.specs.Pages.{page, updates};
 ghost use Rattle.mailbox_model.specs.Turns.{turn as turn_of};
-ghost use Rattle.touched_chats.specs.Costs.{change_cost};
+ghost use Rattle.touched_chats.specs.Costs.{build_reads, change_cost};
 ghost use Rattle.indexes.specs.Kept.{AreAllChats, AreKept};
 ghost use Rattle.indexes.specs.Views.{IsComing};
 ghost use Rattle.repair.specs.Repaired.{AreTouched};
@@ -70,7 +70,8 @@ impl Engine {
     /// An engine over a mailbox. Takes memory; `Err` only when it runs out, and then the mailbox is dropped.
     ///
     /// - `touched`: all chats count as touched.
-    /// - `cost`: it reads kept cards no more often than the load of the mailbox says.
+    /// - `reads`: each present card is read once, and each of a chat once more, with the cards that name it.
+    /// - `cost`: so it reads kept cards no more often than the load of the mailbox says.
     pub fn from_mailbox<L: Ledger>(
         alloc: Global,
         mailbox: Mailbox,
@@ -79,6 +80,7 @@ impl Engine {
         ensures mailbox { IfOk result (λ engine. engine.mailbox ≡ mailbox.mailbox) }
         ensures touched { IfOk result (λ engine. AreAllChats mailbox.mailbox engine.touched) }
         ensures stale { IfOk result (λ engine. engine.stale ≡ false) }
+        ensures reads { steps.new ≤ steps.old + build_reads mailbox.mailbox }
         ensures cost { steps.new ≤ steps.old + load mailbox.mailbox }
     {
         let indexes = Indexes::build(alloc, &mailbox, steps)?;

@@ -20,7 +20,7 @@ use Rattle.state_store.specs.Stored.{IsStored, SameFound}
 use Rattle.state_store.proofs.Appending.{is_settled}
 use Rattle.keeper.specs.Keeping.{Keeping, is_refused}
 use Rattle.tail_journal.specs.Pending.{PendingChanges, none_pending, with_change}
-use Rattle.keeper.specs.Opening.{AllFindSame, IsOthers, load_of}
+use Rattle.keeper.specs.Opening.{AllFindSame, IsOthers}
 use Rattle.touched_chats.specs.Costs.{change_cost}
 use Rattle.follower.specs.declared.fault.Input.{Input}
 use Rattle.follower.specs.declared.fault.Input.TheVariants.{Mbox, Steps}
@@ -287,16 +287,16 @@ module _ (files : Files) (k : Keeping) (mails : List Mail) (moment : ℕ) (now :
 -- ---- what is read and written
 
 -- where nothing is followed
-pub opening_spends : (g : Given) (old mid : Counts) → mid.reads ≤ old.reads + load_of g.stand → mid.written ≡ old.written → RoseWithin old (follow_spends g) mid
+pub opening_spends : (g : Given) (old mid : Counts) → mid.reads ≤ old.reads + g.opening → mid.written ≡ old.written → RoseWithin old (follow_spends g) mid
 opening_spends g old mid reads written = record { reads = omega (arith, reads); written = omega (arith, written) }
 
-module _ (g : Given) (s : State) (stand : g.stand ≡ Ok s) (old mid : Counts) (reads : mid.reads ≤ old.reads + load_of g.stand) (written : mid.written ≡ old.written) where
+module _ (g : Given) (s : State) (stand : g.stand ≡ Ok s) (old mid : Counts) (reads : mid.reads ≤ old.reads + g.opening) (written : mid.written ≡ old.written) where
   pub following_spends : (fill : Fill) (feed : Feed) (new : Counts) → unfit g s ≡ None → fill ≡ g.fill → feed ≡ changes g s → RoseWithin mid (run_spends s fill feed) new → RoseWithin old (follow_spends g) new
   following_spends fill feed new fits fill_is feed_is rose =
       let spent : spent_if g g.stand ≡ run_spends s fill feed =
       ap (spent_if g) stand ∙ ap (spent_from g s) fits ∙ (λ i. run_spends s (sym fill_is i) (sym feed_is i)) in
       record {
-        reads = sum_within old.reads (load_of g.stand) (spent_if g g.stand).reads mid.reads new.reads (run_spends s fill feed).reads (sym (ap (λ (c : Counts). c.reads) spent)) reads rose.reads;
+        reads = sum_within old.reads (g.opening) (spent_if g g.stand).reads mid.reads new.reads (run_spends s fill feed).reads (sym (ap (λ (c : Counts). c.reads) spent)) reads rose.reads;
         written = omega (arith, rose.written, written, ap (λ (c : Counts). c.written) spent);
       }
 

@@ -14,7 +14,7 @@ use Rattle.outside.specs.Moments.{LeavesOnly}
 use Rattle.outside.specs.Places.{Places}
 use Rattle.outside.proofs.Moments.{started}
 use Rattle.outside.specs.declared.faults.Failed.{Failed}
-use Rattle.follow.specs.Outcome.{Agrees, EndsBare, Given, LastIf, MayStandIf, PutsLine, PutsOutcome, PutsWhole, TakesAll, TellsSteps}
+use Rattle.follow.specs.Outcome.{Agrees, EndsBare, Gave, Given, LastIf, MayStandIf, PutsLine, PutsOutcome, PutsWhole, TellsSteps}
 use Rattle.follow.specs.Replies.{Puts}
 use Rattle.follow.specs.Statuses.{line_of, status_of}
 
@@ -218,7 +218,7 @@ not_disk old new cause rose s line shelf is = by (subst (PutsLine old new cause 
         none refusal.NoApp e c = absurd cc
 
 -- fewer bytes were there
-pub not_all : (before after : Option Bytes) (bytes : Bytes) (budget : ℕ) → before ≡ Some bytes → length bytes < budget → ¬ TakesAll before after budget
+pub not_all : (before after : Option Bytes) (bytes : Bytes) (budget : ℕ) → before ≡ Some bytes → length bytes < budget → ¬ Gave before after (λ n. n ≡ budget)
 not_all None after bytes budget is fewer t = absurd cc
 not_all (Some b) None bytes budget is fewer t = absurd t.2
 not_all (Some b) (Some a) bytes budget is fewer t =
@@ -259,6 +259,25 @@ refused_line old new cause rose why s of_why of_memory line =
     by (refusal.Endless input) c p = (refusal.Endless input, refl, c, p)
     by refusal.NoApp c p = (refusal.NoApp, refl, c, p)
 
+-- the same of a weaker cause
+pub line_on : (old new : Option Bytes) (A B : Refusal → Type 0) (rose : Type 0) → ((why : Refusal) → A why → B why)
+    → (s : Status) → PutsLine old new A rose s → PutsLine old new B rose s
+line_on old new A B rose on status.Ok line = tt
+line_on old new A B rose on status.Usage line = (line.0, line.1, on line.0 line.2, line.3)
+line_on old new A B rose on status.Read line = (line.0, line.1, on line.0 line.2, line.3)
+line_on old new A B rose on status.Steps line = (line.0, line.1, on line.0 line.2, line.3)
+line_on old new A B rose on status.Disk line = (line.0, line.1, on line.0 line.2, line.3)
+line_on old new A B rose on status.Write line = tt
+line_on old new A B rose on status.Memory line = (line.0, line.1, on line.0 line.2, line.3)
+line_on old new A B rose on status.Full line = (line.0, line.1, on line.0 line.2, line.3)
+line_on old new A B rose on status.NoChat line = (line.0, line.1, on line.0 line.2, line.3)
+line_on old new A B rose on status.Damaged line = (line.0, line.1, on line.0 line.2, line.3)
+line_on old new A B rose on status.Short line = (line.0, line.1, on line.0 line.2, line.3)
+line_on old new A B rose on status.OtherFiles line = (line.0, line.1, on line.0 line.2, line.3)
+line_on old new A B rose on status.OtherMe line = (line.0, line.1, on line.0 line.2, line.3)
+line_on old new A B rose on status.Endless line = (line.0, line.1, on line.0 line.2, line.3)
+line_on old new A B rose on status.NoApp line = (line.0, line.1, on line.0 line.2, line.3)
+
 -- ---- memory
 
 pub said_memory : (why : Refusal) (s : Status) → Said why s → IsErrOf {T = Unit} (Err why) refusal.Memory → s ≡ status.Memory
@@ -269,7 +288,7 @@ pub not_memory : (why : Refusal) → why ≡ refusal.Write → IsErrOf {T = Unit
 not_memory why is memory = absurd cc
 
 -- the steps file told fewer bytes
-pub not_all_steps : (before after lines : Option Bytes) (budget : ℕ) → TellsSteps true before lines → IfSome lines (λ lines. length lines < budget) → ¬ TakesAll before after budget
+pub not_all_steps : (before after lines : Option Bytes) (budget : ℕ) → TellsSteps true before lines → IfSome lines (λ lines. length lines < budget) → ¬ Gave before after (λ n. n ≡ budget)
 not_all_steps before after None budget told fewer t = absurd told
 not_all_steps before after (Some lines) budget told fewer t = not_all before after lines budget told fewer t
 

@@ -1,8 +1,11 @@
 -- What was put and kept, by what became of the files and of the question.
-use Rattle.std.proofs.Common.{◌≡◌, ◌≢◌, ◌≤◌, ℕ, ◌^◌, [], ◌++◌, ◌+◌, Option, Some, None, Result, Ok, Err, arith, refl, sym, ap, subst, ◌∙◌}
-use Rattle.std.specs.Prelude.{ok_or}
+use Rattle.std.proofs.Common.{◌≡◌, ◌≢◌, ◌⊎◌, inl, inr, ◌≤◌, ◌<◌, ℕ, ◌^◌, [], ◌++◌, ◌+◌, Option, Some, None, Result, Ok, Err, arith, refl, sym, ap, subst, ◌∙◌, length-append}
+use Rattle.std.specs.Prelude.{IfErr, IfOk, length, ok_or}
+use Rattle.std.proofs.KnownBytes.{Consumes-nil}
 use Rattle.std.specs.Result.{result_map_both}
 use Rattle.outside.specs.Causes.{Rose}
+use Rattle.outside.specs.declared.shelf.Place.{Place}
+use Rattle.outside.specs.Moments.{WhereKnown}
 use Rattle.outside.specs.Places.{Places}
 use Rattle.answers.specs.Answers as asked
 use Rattle.answers.specs.Costs.{answer_cost}
@@ -17,20 +20,21 @@ use Rattle.follower.specs.declared.fault.Input.{Input}
 use Rattle.follower.specs.declared.fault.Input.TheVariants.{Mbox, Steps}
 use Rattle.follower.specs.declared.fault.RunFault.{RunFault}
 use Rattle.follower.specs.declared.fault.RunFault.TheVariants as fault
-use Rattle.follower.specs.Following.{Following, IsCause, IsKeepFault}
+use Rattle.follower.specs.Following.{Following, HasTaken, IsCause, IsKeepFault}
 use Rattle.follower.specs.Reached.{Reached, Stop}
 use Rattle.follower.specs.Spending.{Counts, RoseWithin}
 use Rattle.follower.proofs.Committing.{sum_within}
 use Rattle.follower.proofs.Going.{rose_since}
 use Rattle.mailbox_model.specs.Lists.{Bytes}
 use Rattle.mailbox_model.specs.Mailbox.{Mailbox}
-use Rattle.state_store.specs.States.{State}
+use Rattle.state_store.specs.States.{State, max_changes}
+use Rattle.state_store.specs.Stands.{stands}
 use Rattle.trial.specs.Faults as trial
 use Rattle.trial.specs.declared.fault.TrialFault.{TrialFault}
 use Rattle.trial.specs.declared.fault.TrialFault.TheVariants as of_trial
 use Rattle.follow.specs.declared.status.Refusal.{Refusal}
 use Rattle.follow.specs.declared.status.Refusal.TheVariants as refusal
-use Rattle.follow.specs.Outcome.{CauseOf, EndsBare, Given, KeepsAll, OnLast, TakesAll, TakesUpTo, answer_at, answer_reads, asked_cost, follow_spends, followed, mbox_budget, replied, steps_budget}
+use Rattle.follow.specs.Outcome.{CauseOf, EndsBare, Gave, GaveNone, Given, IsFilled, KeepsAll, Kept, OnLast, TakesUpTo, answer_at, answer_reads, asked_cost, follow_spends, followed, mbox_budget, replied, steps_budget}
 use Rattle.follow.specs.Replies.{FollowStops, Puts, Took, untaken}
 use Rattle.follow.specs.Statuses.{answer_refusal, refusal_of, status_of, trial_refusal}
 
@@ -114,19 +118,35 @@ answer_last g outcomes answer.Memory keeps = tt
 
 -- ---- an answer has no cause but its own
 
-pub no_cause : (P Q R T U : Type 0) (e : AnswerFault) → CauseOf P Q R T U (answer_refusal e)
-no_cause P Q R T U answer.NoChat = tt
-no_cause P Q R T U answer.NoApp = tt
-no_cause P Q R T U answer.Write = tt
-no_cause P Q R T U answer.Memory = tt
+module _ (P Q R : Type 0) (T U : (ℕ → Type 0) → Type 0) (K : (State → Type 0) → Type 0) where
+  pub no_cause : (e : AnswerFault) → CauseOf P Q R T U K (answer_refusal e)
+  no_cause answer.NoChat = tt
+  no_cause answer.NoApp = tt
+  no_cause answer.Write = tt
+  no_cause answer.Memory = tt
 
 -- ---- the causes of what is not followed
 
 pub took_within : (l m : Option Bytes) (b : Buffered) (budget : ℕ) → Took l m budget b → TakesUpTo l m budget
 took_within l m b budget t = (t.0, omega (arith, t.1.taken, t.1.budget, t.1.within (omega arith)), t.1.left)
 
-pub took_all : (l m : Option Bytes) (b : Buffered) (budget : ℕ) → b.taken ≡ b.budget → Took l m budget b → TakesAll l m budget
-took_all l m b budget all t = (t.0, omega (arith, all, t.1.taken, t.1.budget), t.1.left)
+-- what holds of the count of a buffer holds of the bytes that the source gave
+pub took_gave : (l m : Option Bytes) (b : Buffered) (budget : ℕ) → Took l m budget b → (X : ℕ → Type 0) → X b.taken → Gave l m X
+took_gave l m b budget t X x = let is : b.taken ≡ length t.0 = omega (arith, t.1.taken) in (t.0, subst X is x, t.1.left)
+
+pub gave_none : (l : Option Bytes) (X : ℕ → Type 0) → GaveNone X → Gave l l X
+gave_none l X x = ([], x, Consumes-nil l)
+
+-- a source that has nothing left gave none
+pub none_gave : (X : ℕ → Type 0) → Gave (Some []) (Some []) X → GaveNone X
+none_gave X gave = let none : length gave.0 ≡ 0 = omega (arith, ap length gave.2, length-append gave.0 []) in subst X none gave.1
+
+pub none_taken : (r before : steps.Reading) → r ≡ before → before.taken ≡ 0 → (X : ℕ → Type 0) → X r.taken → GaveNone X
+none_taken r before same none X x = subst X (ap (λ (y : steps.Reading). y.taken) same ∙ none) x
+
+-- what holds of a state that stands holds of the one that is kept
+pub kept_by : (me : Bytes) (seen : Option Places) (s : State) → WhereKnown seen (λ places. stands me places ≡ Ok s) → (X : State → Type 0) → X s → Kept me seen X
+kept_by me seen s stood X x places is = subst (λ (r : Result State (Place × ℕ)). IfOk r X) (sym (stood places is)) x
 
 pub took_more : (l m n : Option Bytes) (a b : Buffered) (budget : ℕ) → Took l m budget a → (bytes : Bytes) × BufferTakes m n a b bytes → Took l n budget b
 took_more l m n a b budget t u = (t.0 ++ u.0, BufferTakes_more l m n (untaken budget) a b t.0 u.0 t.1 u.1)
@@ -136,72 +156,104 @@ pub took_first : (l m : Option Bytes) (a b : Buffered) (budget : ℕ) → a.held
 took_first l m a b budget held taken is t =
     (t.0, subst (λ (x : Buffered). BufferTakes l m x b t.0) (λ i. record { held = held i; taken = taken i; budget = is i }) t.1)
 
-pub caused : (P Q R T U : Type 0) (new : Following) (me : Bytes) (why : RunFault) → IsCause P Q R new why → (new.mbox.taken ≡ new.mbox.budget → T) → (new.lines.taken ≡ new.lines.budget → U)
-    → CauseOf P Q R T U (refusal_of me why)
-caused P Q R T U new me (fault.Read Mbox) is t u = is
-caused P Q R T U new me (fault.Read Steps) is t u = is
-caused P Q R T U new me (fault.Endless Mbox) is t u = t is
-caused P Q R T U new me (fault.Endless Steps) is t u = u is
-caused P Q R T U new me fault.Disk is t u = is
-caused P Q R T U new me (fault.Short input) is t u = tt
-caused P Q R T U new me (fault.OtherFiles input) is t u = tt
-caused P Q R T U new me (fault.Steps number) is t u = tt
-caused P Q R T U new me (fault.Damaged place at) is t u = tt
-caused P Q R T U new me (fault.OtherMe other) is t u = tt
-caused P Q R T U new me fault.Full is t u = tt
-caused P Q R T U new me fault.Memory is t u = tt
+-- the budget stays
+pub took_budget : (l m : Option Bytes) (b : Buffered) (budget : ℕ) → Took l m budget b → b.budget ≡ budget
+took_budget l m b budget t = t.1.budget
+
+-- the causes of a follower are those of the run: of an input that is short, where what was kept is its state still
+module _ (P Q R F : Type 0) (T U : (ℕ → Type 0) → Type 0) (K : (State → Type 0) → Type 0) (new : Following) (me : Bytes)
+    (mails : (X : ℕ → Type 0) → X new.mbox.taken → T X) (lines : (X : ℕ → Type 0) → X new.lines.taken → U X)
+    (mbox_end : new.mbox.budget ≡ mbox_budget) (lines_end : new.lines.budget ≡ steps_budget) (filled : F → IsFilled T U K) where
+  pub caused : (why : RunFault) → IsCause P Q R F new why → ((input : Input) → why ≡ fault.Short input → (X : State → Type 0) → X new.keeper.state → K X)
+      → CauseOf P Q R T U K (refusal_of me why)
+  caused (fault.Read Mbox) is kept = is
+  caused (fault.Read Steps) is kept = is
+  caused (fault.Endless Mbox) is kept = mails (λ n. n ≡ mbox_budget) (is ∙ mbox_end)
+  caused (fault.Endless Steps) is kept = lines (λ n. n ≡ steps_budget) (is ∙ lines_end)
+  caused fault.Disk is kept = is
+  caused (fault.Short Mbox) is kept = mails (λ n. K (λ s. n < s.position.mbox)) (kept Mbox refl (λ s. new.mbox.taken < s.position.mbox) is)
+  caused (fault.Short Steps) is kept = lines (λ n. K (λ s. n < s.position.steps)) (kept Steps refl (λ s. new.lines.taken < s.position.steps) is)
+  caused (fault.OtherFiles input) is kept = tt
+  caused (fault.Steps number) is kept = lines (λ n. number ≤ n) is
+  caused (fault.Damaged place at) is kept = tt
+  caused (fault.OtherMe other) is kept = tt
+  caused fault.Full is kept = filled is
+  caused fault.Memory is kept = tt
+
+-- a byte that a reader took came in
+pub filled_by : (T U : (ℕ → Type 0) → Type 0) (K : (State → Type 0) → Type 0) (new : Following) → ((X : ℕ → Type 0) → X new.mbox.taken → T X) → ((X : ℕ → Type 0) → X new.lines.taken → U X)
+    → HasTaken new → IsFilled T U K
+filled_by T U K new mails lines (inl taken) = inl (mails (λ n. 1 ≤ n) taken)
+filled_by T U K new mails lines (inr taken) = inr (inl (lines (λ n. 1 ≤ n) taken))
+
+-- or as many changes were made before as may be
+pub filled_or : (T U : (ℕ → Type 0) → Type 0) (K : (State → Type 0) → Type 0) (new : Following) (s : State) → ((X : ℕ → Type 0) → X new.mbox.taken → T X)
+    → ((X : ℕ → Type 0) → X new.lines.taken → U X) → ((X : State → Type 0) → X s → K X) → HasTaken new ⊎ (max_changes ≤ s.position.count) → IsFilled T U K
+filled_or T U K new s mails lines kept (inl taken) = filled_by T U K new mails lines taken
+filled_or T U K new s mails lines kept (inr full) = inr (inr (kept (λ s. max_changes ≤ s.position.count) full))
 
 -- the same of weaker causes
-pub cause_on : (P P' Q Q' R R' T T' U U' : Type 0) (why : Refusal) → (P → P') → (Q → Q') → (R → R') → (T → T') → (U → U') → CauseOf P Q R T U why → CauseOf P' Q' R' T' U' why
-cause_on P P' Q Q' R R' T T' U U' (refusal.Read Mbox) p q r t u c = p c
-cause_on P P' Q Q' R R' T T' U U' (refusal.Read Steps) p q r t u c = q c
-cause_on P P' Q Q' R R' T T' U U' refusal.Disk p q r t u c = r c
-cause_on P P' Q Q' R R' T T' U U' (refusal.Endless Mbox) p q r t u c = t c
-cause_on P P' Q Q' R R' T T' U U' (refusal.Endless Steps) p q r t u c = u c
-cause_on P P' Q Q' R R' T T' U U' refusal.Usage p q r t u c = tt
-cause_on P P' Q Q' R R' T T' U U' (refusal.Steps number) p q r t u c = tt
-cause_on P P' Q Q' R R' T T' U U' refusal.Write p q r t u c = tt
-cause_on P P' Q Q' R R' T T' U U' refusal.Memory p q r t u c = tt
-cause_on P P' Q Q' R R' T T' U U' refusal.Full p q r t u c = tt
-cause_on P P' Q Q' R R' T T' U U' refusal.NoChat p q r t u c = tt
-cause_on P P' Q Q' R R' T T' U U' (refusal.Damaged place at) p q r t u c = tt
-cause_on P P' Q Q' R R' T T' U U' (refusal.Short input) p q r t u c = tt
-cause_on P P' Q Q' R R' T T' U U' (refusal.OtherFiles input) p q r t u c = tt
-cause_on P P' Q Q' R R' T T' U U' (refusal.OtherMe other me) p q r t u c = tt
-cause_on P P' Q Q' R R' T T' U U' refusal.NoApp p q r t u c = tt
+module _ (P P' Q Q' R R' : Type 0) (T T' U U' : (ℕ → Type 0) → Type 0) (K : (State → Type 0) → Type 0) (p : P → P') (q : Q → Q') (r : R → R')
+    (t : (X : ℕ → Type 0) → T X → T' X) (u : (X : ℕ → Type 0) → U X → U' X) where
+  filled_on : IsFilled T U K → IsFilled T' U' K
+  filled_on (inl mbox) = inl (t (λ n. 1 ≤ n) mbox)
+  filled_on (inr (inl lines)) = inr (inl (u (λ n. 1 ≤ n) lines))
+  filled_on (inr (inr kept)) = inr (inr kept)
 
--- why nothing was opened
-pub open_cause : (P Q R T U : Type 0) (me : Bytes) (why : RunFault) → IsKeepFault why → (why ≡ fault.Disk → R) → CauseOf P Q R T U (refusal_of me why)
-open_cause P Q R T U me fault.Disk kind disk = disk refl
-open_cause P Q R T U me (fault.Damaged place at) kind disk = tt
-open_cause P Q R T U me (fault.OtherMe other) kind disk = tt
-open_cause P Q R T U me fault.Full kind disk = tt
-open_cause P Q R T U me fault.Memory kind disk = tt
-open_cause P Q R T U me (fault.Read input) kind disk = absurd kind
-open_cause P Q R T U me (fault.Endless input) kind disk = absurd kind
-open_cause P Q R T U me (fault.Short input) kind disk = absurd kind
-open_cause P Q R T U me (fault.OtherFiles input) kind disk = absurd kind
-open_cause P Q R T U me (fault.Steps number) kind disk = absurd kind
+  pub cause_on : (why : Refusal) → CauseOf P Q R T U K why → CauseOf P' Q' R' T' U' K why
+  cause_on (refusal.Read Mbox) c = p c
+  cause_on (refusal.Read Steps) c = q c
+  cause_on refusal.Disk c = r c
+  cause_on (refusal.Endless Mbox) c = t (λ n. n ≡ mbox_budget) c
+  cause_on (refusal.Endless Steps) c = u (λ n. n ≡ steps_budget) c
+  cause_on (refusal.Short Mbox) c = t (λ n. K (λ s. n < s.position.mbox)) c
+  cause_on (refusal.Short Steps) c = u (λ n. K (λ s. n < s.position.steps)) c
+  cause_on (refusal.Steps number) c = u (λ n. number ≤ n) c
+  cause_on refusal.Full c = filled_on c
+  cause_on refusal.Usage c = tt
+  cause_on refusal.Write c = tt
+  cause_on refusal.Memory c = tt
+  cause_on refusal.NoChat c = tt
+  cause_on (refusal.Damaged place at) c = tt
+  cause_on (refusal.OtherFiles input) c = tt
+  cause_on (refusal.OtherMe other me) c = tt
+  cause_on refusal.NoApp c = tt
 
--- an input that is another one has no further cause
-pub other_cause : (P Q R T U : Type 0) (me : Bytes) (why : RunFault) → (input : Input) × (why ≡ fault.OtherFiles input) → CauseOf P Q R T U (refusal_of me why)
-other_cause P Q R T U me why (input, is) = subst (λ (e : RunFault). CauseOf P Q R T U (refusal_of me e)) (sym is) tt
+pub each_error : {X E : Type 0} (r : Result X E) (P Q : E → Type 0) → ((why : E) → P why → Q why) → IfErr r P → IfErr r Q
+each_error (Ok x) P Q f p = tt
+each_error (Err why) P Q f p = f why p
 
--- a reader that has taken nothing is not at the end of its budget
-pub some_left : (r before : steps.Reading) → r ≡ before → before.taken ≡ 0 → before.budget ≡ 2 ^ 32 → ¬ (r.taken ≡ r.budget)
-some_left r before same none is all =
-    absurd (omega (arith, all, ap (λ (x : steps.Reading). x.taken) same, ap (λ (x : steps.Reading). x.budget) same, none, is))
+module _ (P Q R : Type 0) (T U : (ℕ → Type 0) → Type 0) (K : (State → Type 0) → Type 0) (me : Bytes) where
+  -- why nothing was opened
+  pub open_cause : (why : RunFault) → IsKeepFault why → (why ≡ fault.Disk → R) → CauseOf P Q R T U K (refusal_of me why)
+  open_cause fault.Disk kind disk = disk refl
+  open_cause (fault.Damaged place at) kind disk = tt
+  open_cause (fault.OtherMe other) kind disk = tt
+  open_cause fault.Full kind disk = absurd kind
+  open_cause fault.Memory kind disk = tt
+  open_cause (fault.Read input) kind disk = absurd kind
+  open_cause (fault.Endless input) kind disk = absurd kind
+  open_cause (fault.Short input) kind disk = absurd kind
+  open_cause (fault.OtherFiles input) kind disk = absurd kind
+  open_cause (fault.Steps number) kind disk = absurd kind
+
+  -- an input that is another one has no further cause
+  pub other_cause : (why : RunFault) → (input : Input) × (why ≡ fault.OtherFiles input) → CauseOf P Q R T U K (refusal_of me why)
+  other_cause why (input, is) = subst (λ (e : RunFault). CauseOf P Q R T U K (refusal_of me e)) (sym is) tt
 
 -- the same since earlier calls
-pub cause_later : (mbox_first mbox_mid mbox_last : ℕ) (Q : Type 0) (shelf_first shelf_mid shelf_last : ℕ) (T U : Type 0) (why : Refusal) → mbox_first ≤ mbox_mid → shelf_first ≤ shelf_mid
-    → CauseOf (Rose mbox_mid mbox_last) Q (Rose shelf_mid shelf_last) T U why → CauseOf (Rose mbox_first mbox_last) Q (Rose shelf_first shelf_last) T U why
-cause_later mbox_first mbox_mid mbox_last Q shelf_first shelf_mid shelf_last T U why mbox shelf =
-    cause_on _ _ Q Q _ _ T T U U why (rose_since mbox_first mbox_mid mbox_last mbox) (λ x. x) (rose_since shelf_first shelf_mid shelf_last shelf) (λ x. x) (λ x. x)
+module _ (T U : (ℕ → Type 0) → Type 0) (K : (State → Type 0) → Type 0) (why : Refusal) where
+  pub cause_later : (mbox_first mbox_mid mbox_last : ℕ) (Q : Type 0) (shelf_first shelf_mid shelf_last : ℕ) → mbox_first ≤ mbox_mid → shelf_first ≤ shelf_mid
+      → CauseOf (Rose mbox_mid mbox_last) Q (Rose shelf_mid shelf_last) T U K why → CauseOf (Rose mbox_first mbox_last) Q (Rose shelf_first shelf_last) T U K why
+  cause_later mbox_first mbox_mid mbox_last Q shelf_first shelf_mid shelf_last mbox shelf =
+      cause_on _ _ Q Q _ _ T T U U K (rose_since mbox_first mbox_mid mbox_last mbox) (λ x. x) (rose_since shelf_first shelf_mid shelf_last shelf) (λ X x. x) (λ X x. x) why
 
-pub cause_since_all : (mbox_first mbox_mid mbox_last steps_first steps_mid steps_last shelf_first shelf_mid shelf_last : ℕ) (T U : Type 0) (why : Refusal) → mbox_first ≤ mbox_mid → steps_first ≤ steps_mid → shelf_first ≤ shelf_mid
-    → CauseOf (Rose mbox_mid mbox_last) (Rose steps_mid steps_last) (Rose shelf_mid shelf_last) T U why → CauseOf (Rose mbox_first mbox_last) (Rose steps_first steps_last) (Rose shelf_first shelf_last) T U why
-cause_since_all mbox_first mbox_mid mbox_last steps_first steps_mid steps_last shelf_first shelf_mid shelf_last T U why mbox steps shelf =
-    cause_on _ _ _ _ _ _ T T U U why (rose_since mbox_first mbox_mid mbox_last mbox) (rose_since steps_first steps_mid steps_last steps) (rose_since shelf_first shelf_mid shelf_last shelf) (λ x. x) (λ x. x)
+  pub cause_since_all : (mbox_first mbox_mid mbox_last steps_first steps_mid steps_last shelf_first shelf_mid shelf_last : ℕ) → mbox_first ≤ mbox_mid → steps_first ≤ steps_mid
+      → shelf_first ≤ shelf_mid → CauseOf (Rose mbox_mid mbox_last) (Rose steps_mid steps_last) (Rose shelf_mid shelf_last) T U K why
+      → CauseOf (Rose mbox_first mbox_last) (Rose steps_first steps_last) (Rose shelf_first shelf_last) T U K why
+  cause_since_all mbox_first mbox_mid mbox_last steps_first steps_mid steps_last shelf_first shelf_mid shelf_last mbox steps shelf =
+      cause_on _ _ _ _ _ _ T T U U K (rose_since mbox_first mbox_mid mbox_last mbox) (rose_since steps_first steps_mid steps_last steps)
+      (rose_since shelf_first shelf_mid shelf_last shelf) (λ X x. x) (λ X x. x) why
 
 -- of a follower that was opened, started and followed
 pub mbox_took_on : (l m n : Option Bytes) (f started new : Following) → Took l m mbox_budget (mbox.buffered f.mbox) → started.mbox ≡ f.mbox → (bytes : Bytes) × mbox.Takes m n started.mbox new.mbox bytes
@@ -285,10 +337,11 @@ trial_refused None old new of_trial.Memory p = tt
 trial_refused None old new of_trial.Full p = refl
 
 -- it has no cause in a file, and is none of words
-pub trial_cause : (P Q R T U : Type 0) (e : TrialFault) → CauseOf P Q R T U (trial_refusal e)
-trial_cause P Q R T U of_trial.Full = tt
-trial_cause P Q R T U of_trial.Write = tt
-trial_cause P Q R T U of_trial.Memory = tt
+pub trial_cause : (P Q R : Type 0) (T U : (ℕ → Type 0) → Type 0) (K : (State → Type 0) → Type 0) → ((X : State → Type 0) → K X) → (e : TrialFault)
+    → CauseOf P Q R T U K (trial_refusal e)
+trial_cause P Q R T U K none of_trial.Full = inr (inr (none (λ s. max_changes ≤ s.position.count)))
+trial_cause P Q R T U K none of_trial.Write = tt
+trial_cause P Q R T U K none of_trial.Memory = tt
 
 pub trial_bare : (e : TrialFault) → EndsBare (status_of (trial_refusal e))
 trial_bare of_trial.Full = tt

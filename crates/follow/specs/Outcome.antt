@@ -1,21 +1,21 @@
 -- What a run answers and keeps, by its words and by what its devices give.
-use Rattle.std.specs.Prelude.{◌≡◌, ◌⊎◌, ◌≤◌, ℕ, ◌+◌, ◌^◌, Bool, true, false, ◌&&◌, not, nat_lt, bytes_eq, if◌then◌else◌, List, length, Result, Ok, Err, Option, None, Some, ok_or, option_map, is_none, is_some, unwrap_or, ⊤}
+use Rattle.std.specs.Prelude.{◌≡◌, ◌⊎◌, ◌≤◌, ◌<◌, ℕ, ◌+◌, ◌^◌, Bool, true, false, ◌&&◌, not, nat_lt, bytes_eq, if◌then◌else◌, List, length, Result, Ok, Err, Option, None, Some, IfOk, ok_or, option_map, is_none, is_some, unwrap_or, ⊤}
 use Rattle.std.specs.Borrow.{MutBor}
 use Rattle.std.specs.Result.{result_map_both}
 use Rattle.std.specs.Io.KnownBytes.{Appends, Consumes}
 use Rattle.std.proofs.Common.{inl, inr}
 use Rattle.outside.specs.Bytes.{AppendsPrefix}
 use Rattle.outside.specs.Lent.{Returned}
-use Rattle.outside.specs.Moments.{Reached as Left}
+use Rattle.outside.specs.Moments.{Reached as Left, WhereKnown}
 use Rattle.outside.specs.Places.{Places}
 use Rattle.outside.specs.declared.shelf.Place.{Place}
 use Rattle.mailbox_model.specs.Lists.{Bytes}
 use Rattle.state_image.specs.declared.position.Position.{Position}
-use Rattle.state_store.specs.States.{State}
-use Rattle.state_store.specs.Stands.{stands}
+use Rattle.state_store.specs.States.{State, max_changes}
+use Rattle.state_store.specs.Stands.{found_of, stands}
 use Rattle.state_store.specs.Commits.{Fill}
 use Rattle.state_store.specs.Stored.{fill_in}
-use Rattle.keeper.specs.Opening.{load_of}
+use Rattle.keeper.specs.Opening.{opening_cost}
 use Rattle.answers.specs.Answers.{answer_of}
 use Rattle.answers.specs.Costs.{answer_cost}
 use Rattle.answers.specs.declared.question.Question.{Question}
@@ -41,12 +41,13 @@ use Rattle.follow.specs.Statuses.{answer_refusal, line_of, status_of}
 -- ---- what comes of following
 
 -- What a run goes by: the own address, the mbox, the steps file where one is given, the state that stands, or where what is
--- kept is damaged, how full the store is, and a moment where one comes.
+-- kept is damaged, how many reads of kept cards its opening may take, how full the store is, and a moment where one comes.
 pub record Given : Type 0 where
   pub me : Bytes
   pub mbox : Bytes
   pub steps : Option Bytes
   pub stand : Result State (Place × ℕ)
+  pub opening : ℕ
   pub fill : Fill
   pub moment : Option ℕ
 
@@ -158,6 +159,7 @@ given_of me at found = record {
   mbox = found.mbox;
   steps = found.steps;
   stand = stands me found.places;
+  opening = opening_cost me (found_of found.places);
   fill = fill_in found.places;
   moment = moment_of_run at (is_some found.steps) found.clock;
 }
@@ -240,7 +242,7 @@ spent_if g (Err damage) = counts 0 0
 
 -- by opening, by all changes and by all commits, at most
 abbrev pub follow_spends : Given → Counts
-follow_spends g = counts (load_of g.stand + (spent_if g g.stand).reads) (spent_if g g.stand).written
+follow_spends g = counts (g.opening + (spent_if g g.stand).reads) (spent_if g g.stand).written
 
 -- by the answer, where all changes are made
 abbrev pub answer_reads : Question → Result Reached Refusal → ℕ
@@ -346,13 +348,22 @@ PutsOutcome old new out_rose (Ok text) status.Write = AppendsPrefix old new text
 PutsOutcome old new out_rose (Ok text) _ = ⊤
 PutsOutcome old new out_rose (Err why) s = PutsRefused old new out_rose why s
 
--- so many bytes were taken of what a source had left
-abbrev pub TakesAll : Option Bytes → Option Bytes → ℕ → Type 0
-TakesAll before after count = (bytes : Bytes) × (length bytes ≡ count) × Consumes before after bytes
+-- an input gave bytes, and this holds of how many
+abbrev pub Gave : Option Bytes → Option Bytes → (ℕ → Type 0) → Type 0
+Gave before after P = (bytes : Bytes) × P (length bytes) × Consumes before after bytes
+
+-- an input that is not there gave none
+abbrev pub GaveNone : (ℕ → Type 0) → Type 0
+GaveNone P = P 0
+
+-- one that may be lent
+abbrev pub LentGave : {S : Type 0} → (S → Option Bytes) → Option (MutBor S) → Returned S → (ℕ → Type 0) → Type 0
+LentGave left (Some before) (inr (inl after)) P = Gave (left before.now) (left after.0.now) P
+LentGave left _ _ P = GaveNone P
 
 -- no more bytes were taken than so many
 abbrev pub TakesUpTo : Option Bytes → Option Bytes → ℕ → Type 0
-TakesUpTo before after count = (bytes : Bytes) × (length bytes ≤ count) × Consumes before after bytes
+TakesUpTo before after count = Gave before after (λ n. n ≤ count)
 
 -- so many bytes may be taken of the mbox and of the steps file: 64 GiB and 4 GiB
 abbrev pub mbox_budget : ℕ
@@ -361,14 +372,39 @@ mbox_budget = 2 ^ 36
 abbrev pub steps_budget : ℕ
 steps_budget = 2 ^ 32
 
--- What has to have happened for a refusal, beside what the outcome says.
-abbrev pub CauseOf : (mbox_rose steps_rose shelf_rose mbox_taken steps_taken : Type 0) → Refusal → Type 0
-CauseOf mbox_rose steps_rose shelf_rose mbox_taken steps_taken (refusal.Read Mbox) = mbox_rose
-CauseOf mbox_rose steps_rose shelf_rose mbox_taken steps_taken (refusal.Read Steps) = steps_rose
-CauseOf mbox_rose steps_rose shelf_rose mbox_taken steps_taken refusal.Disk = shelf_rose
-CauseOf mbox_rose steps_rose shelf_rose mbox_taken steps_taken (refusal.Endless Mbox) = mbox_taken
-CauseOf mbox_rose steps_rose shelf_rose mbox_taken steps_taken (refusal.Endless Steps) = steps_taken
-CauseOf mbox_rose steps_rose shelf_rose mbox_taken steps_taken _ = ⊤
+-- this holds of the state that is kept for an own address, where the shelf tells one
+abbrev pub Kept : Bytes → Option Places → (State → Type 0) → Type 0
+Kept me seen P = WhereKnown seen (λ places. IfOk (stands me places) P)
+
+-- the same where the words ask for it
+abbrev pub KeptBy : Command → Bytes → Option Places → (State → Type 0) → Type 0
+KeptBy (command.Ask q) me seen P = Kept me seen P
+KeptBy (command.Trial number) me seen P = ⊤
+
+abbrev pub KeptFor : Option Request → Option Places → (State → Type 0) → Type 0
+KeptFor None seen P = ⊤
+KeptFor (Some r) seen P = KeptBy r.command r.me seen P
+
+-- a byte came in, or as many changes were made before as may be
+abbrev pub IsFilled : (mbox_gave steps_gave : (ℕ → Type 0) → Type 0) (kept : (State → Type 0) → Type 0) → Type 0
+IsFilled mbox_gave steps_gave kept = mbox_gave (λ n. 1 ≤ n) ⊎ (steps_gave (λ n. 1 ≤ n) ⊎ kept (λ s. max_changes ≤ s.position.count))
+
+-- What has to have happened for a refusal, beside what the outcome says: a device failed, or the budget of an input was
+-- taken. And whatever the inputs tell, one is short only where it gave fewer bytes than were followed of it by what is kept,
+-- a line is refused only where the steps file gave as many bytes as that is its number, and a change has no room only where
+-- an input gave a byte, or as many changes were made before as may be.
+abbrev pub CauseOf : (mbox_rose steps_rose shelf_rose : Type 0) (mbox_gave steps_gave : (ℕ → Type 0) → Type 0) (kept : (State → Type 0) → Type 0)
+    → Refusal → Type 0
+CauseOf mbox_rose steps_rose shelf_rose mbox_gave steps_gave kept (refusal.Read Mbox) = mbox_rose
+CauseOf mbox_rose steps_rose shelf_rose mbox_gave steps_gave kept (refusal.Read Steps) = steps_rose
+CauseOf mbox_rose steps_rose shelf_rose mbox_gave steps_gave kept refusal.Disk = shelf_rose
+CauseOf mbox_rose steps_rose shelf_rose mbox_gave steps_gave kept (refusal.Endless Mbox) = mbox_gave (λ n. n ≡ mbox_budget)
+CauseOf mbox_rose steps_rose shelf_rose mbox_gave steps_gave kept (refusal.Endless Steps) = steps_gave (λ n. n ≡ steps_budget)
+CauseOf mbox_rose steps_rose shelf_rose mbox_gave steps_gave kept (refusal.Short Mbox) = mbox_gave (λ n. kept (λ s. n < s.position.mbox))
+CauseOf mbox_rose steps_rose shelf_rose mbox_gave steps_gave kept (refusal.Short Steps) = steps_gave (λ n. kept (λ s. n < s.position.steps))
+CauseOf mbox_rose steps_rose shelf_rose mbox_gave steps_gave kept (refusal.Steps number) = steps_gave (λ n. number ≤ n)
+CauseOf mbox_rose steps_rose shelf_rose mbox_gave steps_gave kept refusal.Full = IsFilled mbox_gave steps_gave kept
+CauseOf mbox_rose steps_rose shelf_rose mbox_gave steps_gave kept _ = ⊤
 
 -- At every other status the line of a refusal with that status and its cause was put, or a prefix of it where the sink's
 -- count rose.

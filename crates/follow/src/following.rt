@@ -1,25 +1,26 @@
 //! A run follows its files: it opens what is kept, goes on from there, and commits.
 ghost use Rattle.kit.specs.Chains.{no_cut};
-ghost use Rattle.std.specs.Prelude.{◌≡◌, ◌≤◌, ◌+◌, ◌^◌, ◌&&◌, List, ℕ, [], None, Some, false, IfErr, IfOk, IfSome, OnOk, is_none, not, unwrap_or};
+ghost use Rattle.std.specs.Prelude.{◌≡◌, ◌⊎◌, ◌≤◌, ◌+◌, ◌^◌, ◌&&◌, List, ℕ, [], None, Some, Ok, false, IfErr, IfOk, IfSome, OnOk, is_none, not, unwrap_or};
 ghost use Rattle.kit.specs.Moments.{last_moment};
 ghost use Rattle.mailbox_model.specs.Lists.{Bytes};
 ghost use Rattle.outside.specs.Causes.{Rose};
 ghost use Rattle.outside.specs.Moments.{IsKnown, LeavesOnly, Reached, WhereKnown};
 ghost use Rattle.outside.specs.Places.{Places};
-ghost use Rattle.state_store.specs.Stands.{stands};
+ghost use Rattle.state_store.specs.States.{max_changes};
+ghost use Rattle.state_store.specs.Stands.{found_of, stands};
 ghost use Rattle.state_store.specs.Commits.{fill_of};
 ghost use Rattle.state_store.specs.Stored.{IsStored, fill_in};
 ghost use Rattle.keeper.specs.Keeping.{IsKept};
-ghost use Rattle.keeper.specs.Opening.{load_of};
+ghost use Rattle.keeper.specs.Opening.{opening_cost};
 ghost use Rattle.tail_journal.specs.Pending.{none_pending};
 ghost use Rattle.mboxrd.specs.Mails.{Mail};
 ghost use Rattle.mboxrd.specs.Reading as mbox_reading;
 ghost use Rattle.steps_file.specs.Reading as steps_reading;
 ghost use Rattle.follower.specs.Committing.{EndGoes, Prefix, outset};
 ghost use Rattle.follower.specs.Feed.{Feed, Files, mails_feed};
-ghost use Rattle.follower.specs.Following.{IsCause, IsFollowFault, StandsInMbox, StandsInSteps, mails_ahead, to_come};
+ghost use Rattle.follower.specs.Following.{HasTaken, IsCause, IsFollowFault, StandsInMbox, StandsInSteps, mails_ahead, to_come};
 ghost use Rattle.follower.specs.Spending.{RoseWithin, counts};
-ghost use Rattle.follow.specs.Outcome.{AsksClock, CauseOf, ClockGives, Found, MayStand, SameState, TakesAll, TakesUpTo, Tells, TellsSteps, follow_spends, given_of, mbox_budget, mbox_found, steps_budget, steps_found};
+ghost use Rattle.follow.specs.Outcome.{AsksClock, CauseOf, ClockGives, Found, Gave, GaveNone, Kept, MayStand, SameState, TakesUpTo, Tells, TellsSteps, follow_spends, given_of, mbox_budget, mbox_found, steps_budget, steps_found};
 ghost use Rattle.follow.specs.Replies.{BeginGoes, FollowGoes, IsState, Took};
 ghost use Rattle.follow.specs.Statuses.{refusal_of};
 
@@ -53,8 +54,9 @@ fn begin<M: Source, H: Shelf, L: Ledger>(
     ensures goes { (bytes : Bytes) (places : Places) → M.left mbox.old ≡ Some bytes → H.seen shelf.old ≡ Some places
         → LeavesOnly H.moment H.left_since shelf.old shelf.new (Reached (H.may_leave shelf.old) (SameState me.now))
         × BeginGoes me.now bytes (stands me.now places) result (M.left mbox.new) (H.seen shelf.new) (H.may_leave shelf.new) }
+    ensures opens { IfOk result (λ f. WhereKnown (H.seen shelf.old) (λ places. stands me.now places ≡ Ok f.keeper.state)) }
     ensures fill { IfOk result (λ f. WhereKnown (H.seen shelf.old) (λ places. fill_of f.keeper.store ≡ fill_in places)) }
-    ensures cost { WhereKnown (H.seen shelf.old) (λ places. steps.new ≤ steps.old + load_of (stands me.now places)) }
+    ensures cost { WhereKnown (H.seen shelf.old) (λ places. steps.new ≤ steps.old + opening_cost me.now (found_of places)) }
     ensures written { H.written shelf.new ≡ H.written shelf.old }
     ensures usable { IfOk result (λ f. f.failed ≡ false) }
     ensures pending { IfOk result (λ f. f.keeper.pending ≡ none_pending) }
@@ -65,7 +67,7 @@ fn begin<M: Source, H: Shelf, L: Ledger>(
     ensures mbox_later { M.faults mbox.old ≤ M.faults mbox.new }
     ensures shelf_later { H.faults shelf.old ≤ H.faults shelf.new }
     ensures cause { IfErr result (λ why. CauseOf (Rose (M.faults mbox.old) (M.faults mbox.new)) ⊥ (Rose (H.faults shelf.old) (H.faults shelf.new))
-        (TakesAll (M.left mbox.old) (M.left mbox.new) mbox_budget) ⊥ (refusal_of me.now why)) }
+        (Gave (M.left mbox.old) (M.left mbox.new)) GaveNone (Kept me.now (H.seen shelf.old)) (refusal_of me.now why)) }
     ensures took { TakesUpTo (M.left mbox.old) (M.left mbox.new) mbox_budget }
 {
     let mut follower = Follower::open(alloc, me, shelf, steps)?;
@@ -94,7 +96,8 @@ fn follow_mails_to_end<M: Source, H: Shelf, L: Ledger>(
     ensures usable { OnOk result (follower.new.failed ≡ false) }
     ensures mbox_later { M.faults mbox.old ≤ M.faults mbox.new }
     ensures shelf_later { H.faults shelf.old ≤ H.faults shelf.new }
-    ensures cause { IfErr result (IsCause (Rose (M.faults mbox.old) (M.faults mbox.new)) ⊥ (Rose (H.faults shelf.old) (H.faults shelf.new)) follower.new) }
+    ensures cause { IfErr result (IsCause (Rose (M.faults mbox.old) (M.faults mbox.new)) ⊥ (Rose (H.faults shelf.old) (H.faults shelf.new))
+        (HasTaken follower.new ⊎ (max_changes ≤ follower.old.keeper.state.position.count)) follower.new) }
     ensures possible { IfErr result IsFollowFault }
     ensures took { (bytes : List ℕ) × mbox_reading.Takes (M.left mbox.old) (M.left mbox.new) follower.old.mbox follower.new.mbox bytes }
     ensures lines { follower.new.lines ≡ follower.old.lines }
@@ -130,7 +133,7 @@ fn follow_lines_to_end<M: Source, S: Source, H: Shelf, L: Ledger>(
     ensures steps_later { S.faults steps_file.old ≤ S.faults steps_file.new }
     ensures shelf_later { H.faults shelf.old ≤ H.faults shelf.new }
     ensures cause { IfErr result (IsCause (Rose (M.faults mbox.old) (M.faults mbox.new)) (Rose (S.faults steps_file.old) (S.faults steps_file.new))
-        (Rose (H.faults shelf.old) (H.faults shelf.new)) follower.new) }
+        (Rose (H.faults shelf.old) (H.faults shelf.new)) (HasTaken follower.new ⊎ (max_changes ≤ follower.old.keeper.state.position.count)) follower.new) }
     ensures possible { IfErr result IsFollowFault }
     ensures mbox_took { (bytes : List ℕ) × mbox_reading.Takes (M.left mbox.old) (M.left mbox.new) follower.old.mbox follower.new.mbox bytes }
     ensures steps_took { (bytes : List ℕ) × steps_reading.Takes (S.left steps_file.old) (S.left steps_file.new) follower.old.lines follower.new.lines bytes }
@@ -163,7 +166,7 @@ fn follow_mbox<M: Source, H: Shelf, C: Clock, L: Ledger>(
     ensures mbox_later { M.faults mbox.old ≤ M.faults mbox.new }
     ensures shelf_later { H.faults shelf.old ≤ H.faults shelf.new }
     ensures cause { IfErr result (λ why. CauseOf (Rose (M.faults mbox.old) (M.faults mbox.new)) ⊥ (Rose (H.faults shelf.old) (H.faults shelf.new))
-        (TakesAll (M.left mbox.old) (M.left mbox.new) mbox_budget) ⊥ (refusal_of me.now why)) }
+        (Gave (M.left mbox.old) (M.left mbox.new)) GaveNone (Kept me.now (H.seen shelf.old)) (refusal_of me.now why)) }
     ensures took { TakesUpTo (M.left mbox.old) (M.left mbox.new) mbox_budget }
     ensures clock { AsksClock C.asked (is_none at) clock.old clock.new ⊥ }
 {
@@ -198,8 +201,8 @@ fn follow_steps<M: Source, S: Source, H: Shelf, L: Ledger>(
     ensures steps_later { S.faults steps_file.old ≤ S.faults steps_file.new }
     ensures shelf_later { H.faults shelf.old ≤ H.faults shelf.new }
     ensures cause { IfErr result (λ why. CauseOf (Rose (M.faults mbox.old) (M.faults mbox.new)) (Rose (S.faults steps_file.old) (S.faults steps_file.new))
-        (Rose (H.faults shelf.old) (H.faults shelf.new)) (TakesAll (M.left mbox.old) (M.left mbox.new) mbox_budget)
-        (TakesAll (S.left steps_file.old) (S.left steps_file.new) steps_budget) (refusal_of me.now why)) }
+        (Rose (H.faults shelf.old) (H.faults shelf.new)) (Gave (M.left mbox.old) (M.left mbox.new)) (Gave (S.left steps_file.old) (S.left steps_file.new))
+        (Kept me.now (H.seen shelf.old)) (refusal_of me.now why)) }
     ensures mbox_took { TakesUpTo (M.left mbox.old) (M.left mbox.new) mbox_budget }
     ensures steps_took { TakesUpTo (S.left steps_file.old) (S.left steps_file.new) steps_budget }
 {
@@ -233,8 +236,8 @@ pub fn follow_files<M: Source, S: Source, H: Shelf, C: Clock, L: Ledger>(
     ensures usable { IfOk result (λ f. f.failed ≡ false) }
     ensures shelf_later { H.faults shelf.old ≤ H.faults shelf.new }
     ensures cause { IfErr result (λ why. CauseOf (Rose (M.faults mbox.old) (M.faults mbox.new)) (Rose (S.faults steps_file.old) (S.faults steps_file.new))
-        (Rose (H.faults shelf.old) (H.faults shelf.new)) (TakesAll (M.left mbox.old) (M.left mbox.new) mbox_budget)
-        (TakesAll (S.left steps_file.old) (S.left steps_file.new) steps_budget) (refusal_of me.now why)) }
+        (Rose (H.faults shelf.old) (H.faults shelf.new)) (Gave (M.left mbox.old) (M.left mbox.new)) (Gave (S.left steps_file.old) (S.left steps_file.new))
+        (Kept me.now (H.seen shelf.old)) (refusal_of me.now why)) }
     ensures mbox_took { TakesUpTo (M.left mbox.old) (M.left mbox.new) mbox_budget }
     ensures steps_took { TakesUpTo (S.left steps_file.old) (S.left steps_file.new) steps_budget }
     ensures clock { AsksClock C.asked (not given && is_none at) clock.old clock.new ⊥ }

@@ -9,7 +9,7 @@ ghost use Rattle.mailbox_model.specs.Lists.{Bytes};
 ghost use Rattle.follower.specs.Spending.{RoseWithin, counts};
 ghost use Rattle.follow.specs.Replies.{Puts};
 ghost use Rattle.follow.specs.Grammar.{IsNoRequest};
-ghost use Rattle.follow.specs.Outcome.{Agrees, AsksClock, CauseOf, ClockGives, ComesWhere, EndsBare, Finds, Found, IfLentAnd, KeepsAll, LastIf, LentTells, MayStand, MayStandIf, OnLast, PutsLine, PutsOutcome, PutsWhole, TakesAll, TakesUpTo, Tells, TellsSteps, asked_cost, cost_of, follows, given_in, given_of, mbox_budget, needs_clock, outcome, result as result_of, steps_budget};
+ghost use Rattle.follow.specs.Outcome.{Agrees, AsksClock, CauseOf, ClockGives, ComesWhere, EndsBare, Finds, Found, Gave, IfLentAnd, KeepsAll, Kept, KeptFor, LastIf, LentGave, LentTells, MayStand, MayStandIf, OnLast, PutsLine, PutsOutcome, PutsWhole, TakesUpTo, Tells, TellsSteps, asked_cost, cost_of, follows, given_in, given_of, mbox_budget, needs_clock, outcome, result as result_of, steps_budget};
 ghost use Rattle.follow.specs.Statuses.{line_of, status_in, status_of};
 ghost use Rattle.follow.specs.Words.{request};
 ghost use Rattle.follow.specs.declared.status.Refusal.TheVariants as refusal;
@@ -56,7 +56,7 @@ fn reply_to<M: Source, S: Source, H: Shelf, C: Clock, K: Sink, L: Ledger>(
     ensures write { IsErrOf result Refusal.Write → Rose (K.faults out.old) (K.faults out.new) }
     ensures nothing { IfErr result (λ why. why ≢ refusal.Write → out.new ≡ out.old) }
     ensures cause { IfErr result (CauseOf (Rose (M.faults mbox.old) (M.faults mbox.new)) (Rose (S.faults steps_file.old) (S.faults steps_file.new))
-        (Rose (H.faults shelf.old) (H.faults shelf.new)) (TakesAll (M.left mbox.old) (M.left mbox.new) mbox_budget) (TakesAll (S.left steps_file.old) (S.left steps_file.new) steps_budget)) }
+        (Rose (H.faults shelf.old) (H.faults shelf.new)) (Gave (M.left mbox.old) (M.left mbox.new)) (Gave (S.left steps_file.old) (S.left steps_file.new)) (Kept me (H.seen shelf.old))) }
     ensures mbox_took { TakesUpTo (M.left mbox.old) (M.left mbox.new) mbox_budget }
     ensures steps_took { TakesUpTo (S.left steps_file.old) (S.left steps_file.new) steps_budget }
     ensures clock { AsksClock C.asked (not given && is_none at) clock.old clock.new (IsErrOf result Refusal.Memory) }
@@ -104,7 +104,7 @@ fn reply<M: Source, S: Source, H: Shelf, C: Clock, K: Sink, L: Ledger>(
     ensures write { IsErrOf result Refusal.Write → Rose (K.faults out.old) (K.faults out.new) }
     ensures nothing { IfErr result (λ why. why ≢ refusal.Write → out.new ≡ out.old) }
     ensures cause { IfErr result (CauseOf (Rose (M.faults mbox.old) (M.faults mbox.new)) (Rose (S.faults steps_file.old) (S.faults steps_file.new))
-        (Rose (H.faults shelf.old) (H.faults shelf.new)) (TakesAll (M.left mbox.old) (M.left mbox.new) mbox_budget) (TakesAll (S.left steps_file.old) (S.left steps_file.new) steps_budget)) }
+        (Rose (H.faults shelf.old) (H.faults shelf.new)) (Gave (M.left mbox.old) (M.left mbox.new)) (Gave (S.left steps_file.old) (S.left steps_file.new)) (KeptFor (request words.now) (H.seen shelf.old))) }
     ensures mbox_took { TakesUpTo (M.left mbox.old) (M.left mbox.new) mbox_budget }
     ensures steps_took { TakesUpTo (S.left steps_file.old) (S.left steps_file.new) steps_budget }
     ensures clock { AsksClock C.asked (needs_clock (request words.now) given) clock.old clock.new (IsErrOf result Refusal.Memory) }
@@ -176,8 +176,8 @@ fn run_given<M: Source, S: Source, H: Shelf, C: Clock, K: Sink, L: Ledger>(
         → RoseWithin (counts steps.old (H.written shelf.old)) (cost_of (request words.now) found) (counts steps.new (H.written shelf.new)) }
     ensures line { PutsLine (K.held out.old) (K.held out.new) (CauseOf (Rose (M.faults mbox.old) (M.faults mbox.new))
         (Rose (S.faults steps_file.old) (S.faults steps_file.new)) (Rose (H.faults shelf.old) (H.faults shelf.new))
-        (TakesAll (M.left mbox.old) (M.left mbox.new) mbox_budget)
-        (TakesAll (S.left steps_file.old) (S.left steps_file.new) steps_budget)) (Rose (K.faults out.old) (K.faults out.new)) result }
+        (Gave (M.left mbox.old) (M.left mbox.new)) (Gave (S.left steps_file.old) (S.left steps_file.new))
+        (KeptFor (request words.now) (H.seen shelf.old))) (Rose (K.faults out.old) (K.faults out.new)) result }
     ensures mbox_took { TakesUpTo (M.left mbox.old) (M.left mbox.new) mbox_budget }
     ensures steps_took { TakesUpTo (S.left steps_file.old) (S.left steps_file.new) steps_budget }
     ensures clock { AsksClock C.asked (needs_clock (request words.now) given) clock.old clock.new (result ≡ Status.Memory) }
@@ -232,14 +232,14 @@ pub fn run<M: Source, S: Source, H: Shelf, C: Clock, K: Sink, L: Ledger>(
         (C.next clock.old) found
         → Agrees (outcome words.now found) result }
 
-    // What is put: the answer, or the very line of the refusal; at Read, Endless, Disk and Memory a line with that cause.
+    // What is put: the answer, or the very line of the refusal; and whatever is known, a line with that status and its cause.
     ensures answer { (found : Found) → Finds (request words.now) (is_some steps_file.entry) (M.left mbox.old) (LentTells S.left steps_file.entry) (H.seen shelf.old)
         (C.next clock.old) found
         → PutsOutcome (K.held out.old) (K.held out.new) (Rose (K.faults out.old) (K.faults out.new)) (outcome words.now found) result }
     ensures line { PutsLine (K.held out.old) (K.held out.new) (CauseOf (Rose (M.faults mbox.old) (M.faults mbox.new))
         (IfLentAnd steps_file.entry steps_file.exit (λ before after. Rose (S.faults before) (S.faults after)))
-        (Rose (H.faults shelf.old) (H.faults shelf.new)) (TakesAll (M.left mbox.old) (M.left mbox.new) mbox_budget)
-        (IfLentAnd steps_file.entry steps_file.exit (λ before after. TakesAll (S.left before) (S.left after) steps_budget)))
+        (Rose (H.faults shelf.old) (H.faults shelf.new)) (Gave (M.left mbox.old) (M.left mbox.new))
+        (LentGave S.left steps_file.entry steps_file.exit) (KeptFor (request words.now) (H.seen shelf.old)))
         (Rose (K.faults out.old) (K.faults out.new)) result }
 
     // What is kept: at any moment a crash leaves the state of a crash outcome at the start, or that after the first changes, of
@@ -260,9 +260,9 @@ pub fn run<M: Source, S: Source, H: Shelf, C: Clock, K: Sink, L: Ledger>(
         → ¬ IfLentAnd steps_file.entry steps_file.exit (λ before after. Rose (S.faults before) (S.faults after))
         → (result ≡ Status.Ok × Appends (K.held out.old) (K.held out.new) text) ⊎ (result ≡ Status.Memory) }
 
-    // What is counted: opening and a checkpoint read no more kept cards than there are, a change no more than it may cost, and
-    // the answer what its question may; and a commit writes no more bytes than an image where a checkpoint falls due, and else
-    // a group.
+    // What is counted: opening reads no more kept cards than the load of what stands, nor than that of the chosen slot and the
+    // cost of each change after it, a checkpoint no more than there are, a change no more than it may cost, and the answer
+    // what its question may; and a commit writes no more bytes than an image where a checkpoint falls due, and else a group.
     ensures cost { (found : Found) → Finds (request words.now) (is_some steps_file.entry) (M.left mbox.old) (LentTells S.left steps_file.entry) (H.seen shelf.old)
         (C.next clock.old) found
         → RoseWithin (counts steps.old (H.written shelf.old)) (cost_of (request words.now) found) (counts steps.new (H.written shelf.new)) }

@@ -1,18 +1,21 @@
 -- One turn after another.
-use Rattle.std.proofs.Common.{◌≡◌, ◌≤◌, ◌+◌, ◌∷◌, ◌++◌, ℕ, zero, suc, false, List, [], length, take, Option, arith, rules, refl, sym, ap, ◌∙◌}
+use Rattle.std.proofs.Common.{◌≡◌, ◌⊎◌, inl, inr, ◌≤◌, ◌+◌, ◌∷◌, ◌++◌, ℕ, zero, suc, Bool, true, false, ◌||◌, List, [], length, take, Option, Result, Ok, Err, IfErr, arith, rules, refl, sym, ap, subst, ◌∙◌}
+use Rattle.std.specs.Prelude.{◌==◌, IsErrOf}
+use Rattle.std.proofs.lemmas.Bool.{eqb-true, false≢true}
 use Rattle.outside.specs.Causes.{Rose}
 use Rattle.mailbox_model.specs.declared.change.Change.{Change}
+use Rattle.mailbox_model.specs.declared.change.Change.TheVariants.{At}
 use Rattle.mailbox_model.specs.Mailbox.{Mailbox, after}
 use Rattle.mboxrd.specs.Reading as mbox_reading
 use Rattle.source_buffer.proofs.Taking.{BufferTakes_more, BufferTakes_none}
-use Rattle.state_store.specs.States.{State}
+use Rattle.state_store.specs.States.{State, max_changes}
 use Rattle.steps_file.specs.Reading as steps_reading
 use Rattle.keeper.specs.Keeping.{is_refused}
 use Rattle.follower.specs.declared.fault.Input.TheVariants.{Mbox, Steps}
 use Rattle.follower.specs.declared.fault.RunFault.{RunFault}
 use Rattle.follower.specs.declared.fault.RunFault.TheVariants as fault
 use Rattle.follower.specs.Feed.{Fed, Feed, after_fed, fed_first}
-use Rattle.follower.specs.Following.{Following, IsCause}
+use Rattle.follower.specs.Following.{Following, HasTaken, IsCause, IsFedFrom}
 use Rattle.follower.specs.Going.{AreMade, Leads, after_feds, fed_all}
 use Rattle.follower.specs.Reached.{count_made, reached}
 
@@ -88,16 +91,50 @@ same_me s (f ∷ fs) = same_me (after_fed s f) fs ∙ one s.mailbox f.change
 
 -- ---- causes
 
-pub cause_since : (P P' Q Q' R R' : Type 0) (new : Following) (why : RunFault) → (P → P') → (Q → Q') → (R → R') → IsCause P Q R new why → IsCause P' Q' R' new why
-cause_since P P' Q Q' R R' new (fault.Read Mbox) p q r h = p h
-cause_since P P' Q Q' R R' new (fault.Read Steps) p q r h = q h
-cause_since P P' Q Q' R R' new (fault.Endless Mbox) p q r h = h
-cause_since P P' Q Q' R R' new (fault.Endless Steps) p q r h = h
-cause_since P P' Q Q' R R' new fault.Disk p q r h = r h
-cause_since P P' Q Q' R R' new (fault.Short input) p q r h = tt
-cause_since P P' Q Q' R R' new (fault.OtherFiles input) p q r h = tt
-cause_since P P' Q Q' R R' new (fault.Steps number) p q r h = tt
-cause_since P P' Q Q' R R' new (fault.Damaged place at) p q r h = tt
-cause_since P P' Q Q' R R' new (fault.OtherMe other) p q r h = tt
-cause_since P P' Q Q' R R' new fault.Full p q r h = tt
-cause_since P P' Q Q' R R' new fault.Memory p q r h = tt
+pub cause_since : (P P' Q Q' R R' F F' : Type 0) (new : Following) (why : RunFault) → (P → P') → (Q → Q') → (R → R') → (F → F')
+    → IsCause P Q R F new why → IsCause P' Q' R' F' new why
+cause_since P P' Q Q' R R' F F' new (fault.Read Mbox) p q r f h = p h
+cause_since P P' Q Q' R R' F F' new (fault.Read Steps) p q r f h = q h
+cause_since P P' Q Q' R R' F F' new (fault.Endless Mbox) p q r f h = h
+cause_since P P' Q Q' R R' F F' new (fault.Endless Steps) p q r f h = h
+cause_since P P' Q Q' R R' F F' new fault.Disk p q r f h = r h
+cause_since P P' Q Q' R R' F F' new (fault.Short Mbox) p q r f h = h
+cause_since P P' Q Q' R R' F F' new (fault.Short Steps) p q r f h = h
+cause_since P P' Q Q' R R' F F' new (fault.OtherFiles input) p q r f h = tt
+cause_since P P' Q Q' R R' F F' new (fault.Steps number) p q r f h = h
+cause_since P P' Q Q' R R' F F' new (fault.Damaged place at) p q r f h = tt
+cause_since P P' Q Q' R R' F F' new (fault.OtherMe other) p q r f h = tt
+cause_since P P' Q Q' R R' F F' new fault.Full p q r f h = f h
+cause_since P P' Q Q' R R' F F' new fault.Memory p q r f h = tt
+
+-- of a change that is refused, as a keeper or a follower tells it
+pub full_caused : (P Q R F : Type 0) (new : Following) (why : RunFault) → (why ≡ fault.Full) ⊎ (why ≡ fault.Memory) → (why ≡ fault.Full → F) → IsCause P Q R F new why
+full_caused P Q R F new why (inl full) f = subst (IsCause P Q R F new) (sym full) (f full)
+full_caused P Q R F new why (inr memory) f = subst (IsCause P Q R F new) (sym memory) tt
+
+-- a moment is refused only where as many changes were made as may be
+pub moment_filled : (s : State) (moment : ℕ) → is_refused s (At moment) ≡ true → max_changes ≤ s.position.count
+moment_filled s moment refused = by (s.position.count == max_changes) refl refused
+  where
+    by : (b : Bool) → (s.position.count == max_changes) ≡ b → (b || false) ≡ true → max_changes ≤ s.position.count
+    by true e h = let is = eqb-true s.position.count max_changes e in omega (arith, is)
+    by false e h = absurd (false≢true h)
+
+-- a line was read, or the state is as it was
+pub fed_on : (s : State) (mid new : Following) → mid.lines.taken ≤ new.lines.taken → IsFedFrom s mid → IsFedFrom mid.keeper.state new → IsFedFrom s new
+fed_on s mid new more past (inl taken) = inl taken
+fed_on s mid new more (inl taken) (inr same) = inl (omega (arith, taken, more))
+fed_on s mid new more (inr past) (inr same) = inr (same ∙ past)
+
+pub at_caused : {T : Type 0} (P Q R : Type 0) (s t : State) (new : Following) (moment : ℕ) (r : Result T RunFault) → t ≡ s → IfErr r (λ why. (why ≡ fault.Full) ⊎ (why ≡ fault.Memory))
+    → (IsErrOf r fault.Full → is_refused t (At moment) ≡ true) → IfErr r (IsCause P Q R (max_changes ≤ s.position.count) new)
+at_caused P Q R s t new moment (Ok x) same cause full = tt
+at_caused P Q R s t new moment (Err why) same cause full =
+    full_caused P Q R (max_changes ≤ s.position.count) new why cause
+    (λ is. subst (λ (u : State). max_changes ≤ u.position.count) same (moment_filled t moment (full (ap Err is))))
+
+-- a moment that comes after the lines
+pub filled_since : (s : State) (mid new : Following) → new.lines ≡ mid.lines → IsFedFrom s mid → max_changes ≤ mid.keeper.state.position.count
+    → HasTaken new ⊎ (max_changes ≤ s.position.count)
+filled_since s mid new same (inl taken) full = inl (inr (subst (λ (r : steps_reading.Reading). 1 ≤ r.taken) (sym same) taken))
+filled_since s mid new same (inr state) full = inr (subst (λ (t : State). max_changes ≤ t.position.count) state full)

@@ -7,11 +7,10 @@ use Rattle.mailbox_model.specs.declared.change.Change.{Change}
 use Rattle.mailbox_model.specs.Mailbox.{Mailbox, after, after_all}
 use Rattle.state_store.specs.Commits.{Fill}
 use Rattle.state_store.specs.States.{State}
-use Rattle.touched_chats.specs.Costs.{change_cost}
+use Rattle.touched_chats.specs.Costs.{change_cost, change_costs}
 use Rattle.follower.specs.Feed.{Fed, Feed, after_fed, fed_first}
 use Rattle.follower.specs.Going.{AreMade, after_feds}
 use Rattle.follower.specs.Reached.{Stop, committed_of, count_made}
-use Rattle.arrivals.specs.Costs.{change_costs}
 use Rattle.follower.specs.Spending.{Counts, RoseWithin, counts, commits_of, feds_cost, next_cost, spent_by, tried, with_reads}
 use Rattle.follower.proofs.Going.{count_done}
 

@@ -1,5 +1,5 @@
 -- A reader that was passed over the bytes that were followed stands after them.
-use Rattle.std.proofs.Common.{◌≡◌, ℕ, ◌+◌, false, List, [], ◌++◌, length, take, drop, Option, Some, None, refl, sym, ap, subst, ◌∙◌, arith, length-append}
+use Rattle.std.proofs.Common.{◌≡◌, ℕ, ◌+◌, ◌<◌, false, List, [], ◌++◌, length, take, drop, Option, Some, None, refl, sym, ap, subst, ◌∙◌, arith, length-append}
 use Rattle.kit.specs.Chains.{Cut, StandsFor, no_cut}
 use Rattle.kit.proofs.ChainLaws.{stands_none}
 use Rattle.mboxrd.specs.Mails.{mails_from}
@@ -15,6 +15,14 @@ use Rattle.follower.specs.Opening.{StandsAtLines, StandsAtMails}
 stands_at_none : (c : Cut) (place : ℕ) (file : List ℕ) → c ≡ no_cut → place ≡ 0 → StandsFor c (take place file)
 stands_at_none c place file none start =
     subst (λ (d : Cut). StandsFor d (take place file)) (sym none) (subst (λ (n : ℕ). StandsFor no_cut (take n file)) (sym start) stands_none)
+
+-- ---- an input that is short
+
+-- it gave fewer bytes than were followed, where all were dropped that it gave
+pub short_taken : (held bytes passed rest : List ℕ) (dropped place before after : ℕ) → held ≡ [] → before ≡ 0 → after ≡ before + length bytes → held ++ bytes ≡ passed ++ rest
+    → length passed ≡ dropped → rest ≡ [] → dropped < place → after < place
+short_taken held bytes passed rest dropped place before after none first took is count left few =
+    omega (arith, first, took, ap length is, ap length none, ap length left, count, few, length-append held bytes, length-append passed rest)
 
 -- ---- the mbox
 

@@ -1,7 +1,7 @@
 -- A turn makes the next change of the files, and the others are to come after it.
 use Rattle.std.proofs.Common.{◌≡◌, ◌≢◌, ◌+◌, ℕ, true, false, List, [], ◌∷◌, ◌++◌, length, take, Option, Some, None, ◌≤◌, ◌<◌, ◌⊎◌, inl, inr, refl, sym, ap, subst, ◌∙◌, if◌then◌else◌, arith}
 use Rattle.std.specs.Prelude.{⊤, is_some}
-use Rattle.std.proofs.lemmas.Bool.{le-ltb, lt-ltb}
+use Rattle.std.proofs.lemmas.Bool.{false≢true, le-ltb, lt-ltb}
 use Rattle.kit.specs.Chains.{StandsFor, chain, value_of}
 use Rattle.kit.specs.Lines.{content}
 use Rattle.kit.proofs.ChainLaws.{chain_is}
@@ -30,7 +30,7 @@ use Rattle.follower.specs.declared.fault.RunFault.TheVariants as fault
 use Rattle.state_image.specs.declared.position.Position.{Position}
 use Rattle.arrivals.specs.Arrivals.{arrival_of, arrival_taken, arrival_with}
 use Rattle.arrivals.proofs.Uids.{next_uid_after}
-use Rattle.state_store.specs.States.{State}
+use Rattle.state_store.specs.States.{State, IsWithin}
 use Rattle.touched_chats.specs.Costs.{change_cost}
 use Rattle.keeper.specs.Keeping.{Keeping, after_change, is_refused}
 use Rattle.tail_journal.specs.Pending.{with_change}
@@ -283,6 +283,10 @@ line_placed p r = record p { steps = r.place; lines = p.lines + 1; steps_trace =
 no_end : (uid : ℕ) (t : Taken) (change : Option Change) → change ≡ arrival_taken uid t → is_some change ≡ true → t ≡ taken.End → ⊥
 no_end uid t change is some end = absurd (let none : false ≡ true = ap is_some (sym (is ∙ ap (arrival_taken uid) end)) ∙ some in cc)
 
+-- at the end none comes
+pub no_arrival : (uid : ℕ) (t : Taken) (change : Option Change) → t ≡ taken.End → change ≡ arrival_taken uid t → is_some change ≡ true → ⊥
+no_arrival uid t change end is some = false≢true (sym (ap is_some (is ∙ ap (arrival_taken uid) end)) ∙ some)
+
 pub next_stands : (l m : Option (List ℕ)) (old new : Following) (r : Reading) (uid : ℕ) (t : Taken) (change : Option Change) → r ≡ old.mbox → change ≡ arrival_taken uid t
     → IfKnown l m (λ before after. (file : List ℕ) → IsAt file before r → IsAt file after new.mbox)
     → IfKnown l m (λ before after. (file : List ℕ) → IsAt file before r → IsTraced file r → StandsFor new.mbox.trace (take new.mbox.place file) × (t ≢ taken.End → IsTraced file new.mbox))
@@ -480,6 +484,19 @@ module _ (files : Files) (l m k n : Option (List ℕ)) (old here mid : Following
       by before after mails_before mails_after standing h (raw ∷ ls) g = subst (λ (n : ℕ). to ≤ from + n) (ap (λ (t : State). change_cost t.mailbox made.0) mid_state
           ∙ line_first files last old.keeper.state raw ls st (mails_ahead old mails_before) (mails_ahead mid mails_after) made.0 p made.1 g.0 h) cost
 
+-- ---- whatever the files tell
+
+pub step_no_end : (t : TakenLine) (st : Step) → t ≡ taken_line.Step st → t ≢ taken_line.End
+step_no_end t st is end = cc
+
+pub bare_no_end : (t : TakenLine) → t ≡ taken_line.NoStep → t ≢ taken_line.End
+bare_no_end t is end = cc
+
+-- a line that was read ends within the bytes that were taken, and is no later one than there are of them
+pub line_taken : (f : Following) (r : StepsReading) → f.lines.place ≡ f.keeper.state.position.steps → f.lines.place < r.place → r.place ≤ r.taken
+    → IsWithin f.keeper.state.position → f.keeper.state.position.lines + 1 ≤ r.taken
+line_taken f r place passed within lines = omega (arith, place, passed, within, lines.lines)
+
 -- ---- what a keeper refuses
 
 pub keep_cause : (why : KeepFault) → (why ≡ of_keeper.Full) ⊎ (why ≡ of_keeper.Memory) → (keep_fault why ≡ fault.Full) ⊎ (keep_fault why ≡ fault.Memory)
@@ -493,9 +510,9 @@ keep_full (of_keeper.Damaged place at) is = absurd cc
 keep_full (of_keeper.OtherMe other) is = absurd cc
 keep_full of_keeper.Memory is = absurd cc
 
-pub keep_kind : (why : KeepFault) → IsKeepFault (keep_fault why)
-keep_kind of_keeper.Full = tt
-keep_kind of_keeper.Disk = tt
-keep_kind (of_keeper.Damaged place at) = tt
-keep_kind (of_keeper.OtherMe other) = tt
-keep_kind of_keeper.Memory = tt
+pub keep_kind : (why : KeepFault) → why ≢ of_keeper.Full → IsKeepFault (keep_fault why)
+keep_kind of_keeper.Full other = absurd (other refl)
+keep_kind of_keeper.Disk other = tt
+keep_kind (of_keeper.Damaged place at) other = tt
+keep_kind (of_keeper.OtherMe other_me) other = tt
+keep_kind of_keeper.Memory other = tt

@@ -1,5 +1,5 @@
 -- A follower as contracts see it: where it stands in its files, and what its turns make of them.
-use Rattle.std.specs.Prelude.{◌≡◌, ◌≤◌, ◌<◌, ℕ, ◌+◌, Bool, List, [], ◌∷◌, ◌++◌, Option, Some, None, option_map, Result, Ok, Err, ⊤, codes}
+use Rattle.std.specs.Prelude.{◌≡◌, ◌⊎◌, ◌≤◌, ◌<◌, ℕ, ◌+◌, Bool, List, [], ◌∷◌, ◌++◌, Option, Some, None, option_map, Result, Ok, Err, ⊤, codes}
 use Rattle.kit.specs.Moments.{last_moment}
 use Rattle.mboxrd.specs.Mails.{Mail, mails_from}
 use Rattle.mboxrd.specs.declared.fault.BoxFault.{BoxFault}
@@ -177,15 +177,29 @@ abbrev pub LineCosts : Files → Option ℕ → Result Turned RunFault → Follo
 LineCosts files last result old mails_before before from to = StandsInMbox files old mails_before → StandsInSteps files old before
     → TurnCosts result old.keeper.state (to_come files last old mails_before (Some before)) from to
 
+-- an input gave a byte
+abbrev pub HasTaken : Following → Type 0
+HasTaken f = (1 ≤ f.mbox.taken) ⊎ (1 ≤ f.lines.taken)
+
+-- a line was read, or the state is this one still
+abbrev pub IsFedFrom : State → Following → Type 0
+IsFedFrom s f = (1 ≤ f.lines.taken) ⊎ (f.keeper.state ≡ s)
+
 -- Why a call is refused, beside what the files and the kept state say: a fault of a device that rose, or the budget of an
--- input that was taken.
-abbrev pub IsCause : (mbox_rose steps_rose shelf_rose : Type 0) → Following → RunFault → Type 0
-IsCause mbox_rose steps_rose shelf_rose new (fault.Read Mbox) = mbox_rose
-IsCause mbox_rose steps_rose shelf_rose new (fault.Read Steps) = steps_rose
-IsCause mbox_rose steps_rose shelf_rose new (fault.Endless Mbox) = new.mbox.taken ≡ new.mbox.budget
-IsCause mbox_rose steps_rose shelf_rose new (fault.Endless Steps) = new.lines.taken ≡ new.lines.budget
-IsCause mbox_rose steps_rose shelf_rose new fault.Disk = shelf_rose
-IsCause mbox_rose steps_rose shelf_rose new _ = ⊤
+-- input that was taken. And whatever its inputs tell, an input is short only where it gave fewer bytes than were followed, a
+-- line is refused only where the steps file gave as many bytes as that is its number, and a change has no room only where
+-- this holds of it.
+abbrev pub IsCause : (mbox_rose steps_rose shelf_rose filled : Type 0) → Following → RunFault → Type 0
+IsCause mbox_rose steps_rose shelf_rose filled new (fault.Read Mbox) = mbox_rose
+IsCause mbox_rose steps_rose shelf_rose filled new (fault.Read Steps) = steps_rose
+IsCause mbox_rose steps_rose shelf_rose filled new (fault.Endless Mbox) = new.mbox.taken ≡ new.mbox.budget
+IsCause mbox_rose steps_rose shelf_rose filled new (fault.Endless Steps) = new.lines.taken ≡ new.lines.budget
+IsCause mbox_rose steps_rose shelf_rose filled new (fault.Short Mbox) = new.mbox.taken < new.keeper.state.position.mbox
+IsCause mbox_rose steps_rose shelf_rose filled new (fault.Short Steps) = new.lines.taken < new.keeper.state.position.steps
+IsCause mbox_rose steps_rose shelf_rose filled new (fault.Steps number) = number ≤ new.lines.taken
+IsCause mbox_rose steps_rose shelf_rose filled new fault.Full = filled
+IsCause mbox_rose steps_rose shelf_rose filled new fault.Disk = shelf_rose
+IsCause mbox_rose steps_rose shelf_rose filled new _ = ⊤
 
 -- a fault that a turn may have
 abbrev pub IsTurnFault : RunFault → Type 0
@@ -201,11 +215,10 @@ abbrev pub IsFollowFault : RunFault → Type 0
 IsFollowFault fault.Disk = ⊤
 IsFollowFault why = IsTurnFault why
 
--- a fault of what is kept, or of memory
+-- a fault of what is kept and opened, or of memory
 abbrev pub IsKeepFault : RunFault → Type 0
 IsKeepFault fault.Disk = ⊤
 IsKeepFault (fault.Damaged place at) = ⊤
 IsKeepFault (fault.OtherMe other) = ⊤
-IsKeepFault fault.Full = ⊤
 IsKeepFault fault.Memory = ⊤
 IsKeepFault _ = ⊥

@@ -3,7 +3,7 @@ use Rattle.std.specs.Prelude.{◌≤◌, ℕ, zero, suc, ◌+◌, ◌*◌, ◌/�
 use Rattle.state_image.specs.Changes.{change_spelled}
 use Rattle.state_store.specs.Commits.{Fill, commit_reads, commit_writes, fill_with}
 use Rattle.state_store.specs.States.{State}
-use Rattle.arrivals.specs.Costs.{change_costs}
+use Rattle.touched_chats.specs.Costs.{change_costs}
 use Rattle.follower.specs.Feed.{Fed, Feed}
 use Rattle.follower.specs.Going.{after_feds}
 use Rattle.follower.specs.Reached.{committed_count, count_made}

@@ -12,17 +12,17 @@ ghost use Rattle.outside.specs.Moments.{LeavesOnly, Reached, WhereKnown, KnownTh
 ghost use Rattle.outside.specs.Places.{Places};
 ghost use Rattle.source_buffer.specs.Known.{IfKnown};
 ghost use Rattle.state_store.specs.Commits.{OldOrNew, commit_reads, commit_writes, fill_of, fill_with};
-ghost use Rattle.state_store.specs.Stands.{stands};
+ghost use Rattle.state_store.specs.Stands.{found_of, stands};
 ghost use Rattle.state_store.specs.Stored.{IsStored, SameFound, fill_in};
 ghost use Rattle.steps_file.specs.Reading as steps_reading;
 ghost use Rattle.touched_chats.specs.Costs.{change_cost};
 ghost use Rattle.state_store.specs.States.{IsWithin};
 ghost use Rattle.keeper.specs.Keeping.{IsKept, is_refused};
-ghost use Rattle.keeper.specs.Opening.{AllFindSame, load_of};
+ghost use Rattle.keeper.specs.Opening.{AllFindSame, opening_cost};
 ghost use Rattle.tail_journal.specs.Pending.{none_pending, with_change};
 ghost use Rattle.follower.specs.Feed.{Files, after_fed, moment_fed};
 ghost use Rattle.follower.specs.Inputs.{GivesOther, IsPassedOver, is_same, other_of};
-ghost use Rattle.follower.specs.Following.{Adds, ArrivesNext, IsCause, IsKeepFault, IsTurnFault, LacksMail, LineCosts, LineTurn, MailCosts, MailTurn, Makes, MakesMoment, ReadsForOne, StandsInMbox, TurnAdds, mails_ahead};
+ghost use Rattle.follower.specs.Following.{Adds, ArrivesNext, HasTaken, IsCause, IsFedFrom, IsKeepFault, IsTurnFault, LacksMail, LineCosts, LineTurn, MailCosts, MailTurn, Makes, MakesMoment, ReadsForOne, StandsInMbox, TurnAdds, mails_ahead};
 ghost use Rattle.follower.specs.Opening.{OnOtherMe, Opens, StartsLines, StartsMbox};
 ghost use Rattle.follower.specs.declared.fault.Input.TheVariants.{Mbox};
 ghost use Rattle.follower.specs.declared.fault.RunFault.TheVariants as fault;
@@ -104,7 +104,8 @@ impl Follower {
     /// - `kept`, `stored`, `same`: after Ok the shelf is settled for the follower, and the same is found there.
     /// - `any_moment`: a crash at any moment leaves that in which the same is found as in what it might have left at the start.
     /// - `other`: after `OtherMe` each crash outcome has that in which the same is found as in what the reads gave at the start.
-    /// - `load`, `cost`: it reads kept cards no more often than the load of the mailbox says, whatever is answered.
+    /// - `load`, `cost`: it reads kept cards no more often than the load of the mailbox says, whatever is answered, nor than that
+    ///   of what the chosen slot keeps and the cost of each change after it.
     pub fn open<H: Shelf, L: Ledger>(
         alloc: Global,
         me: &Addr,
@@ -126,7 +127,7 @@ impl Follower {
         ensures written { H.written shelf.new ≡ H.written shelf.old }
         ensures fill { IfOk result (λ f. WhereKnown (H.seen shelf.old) (λ places. fill_of f.keeper.store ≡ fill_in places)) }
         ensures load { IfOk result (λ f. steps.new ≤ steps.old + load f.keeper.state.mailbox) }
-        ensures cost { WhereKnown (H.seen shelf.old) (λ places. steps.new ≤ steps.old + load_of (stands me.now places)) }
+        ensures cost { WhereKnown (H.seen shelf.old) (λ places. steps.new ≤ steps.old + opening_cost me.now (found_of places)) }
         ensures later { H.faults shelf.old ≤ H.faults shelf.new }
         ensures cause { IsErrOf result RunFault.Disk → Rose (H.faults shelf.old) (H.faults shelf.new) }
         ensures possible { IfErr result IsKeepFault }
@@ -183,7 +184,7 @@ impl Follower {
         ensures lines { self.new.lines ≡ self.old.lines }
         ensures failed { self.new.failed ≡ is_err result }
         ensures later { M.faults mbox.old ≤ M.faults mbox.new }
-        ensures cause { IfErr result (IsCause (Rose (M.faults mbox.old) (M.faults mbox.new)) ⊥ ⊥ self.new) }
+        ensures cause { IfErr result (IsCause (Rose (M.faults mbox.old) (M.faults mbox.new)) ⊥ ⊥ ⊥ self.new) }
         ensures took { (bytes : List ℕ) × mbox_reading.Takes (M.left mbox.old) (M.left mbox.new) self.old.mbox self.new.mbox bytes }
     {
         self.failed = true;
@@ -208,7 +209,7 @@ impl Follower {
         ensures mbox { self.new.mbox ≡ self.old.mbox }
         ensures failed { self.new.failed ≡ is_err result }
         ensures later { S.faults steps_file.old ≤ S.faults steps_file.new }
-        ensures cause { IfErr result (IsCause ⊥ (Rose (S.faults steps_file.old) (S.faults steps_file.new)) ⊥ self.new) }
+        ensures cause { IfErr result (IsCause ⊥ (Rose (S.faults steps_file.old) (S.faults steps_file.new)) ⊥ ⊥ self.new) }
         ensures took { (bytes : List ℕ) × steps_reading.Takes (S.left steps_file.old) (S.left steps_file.new) self.old.lines self.new.lines bytes }
     {
         self.failed = true;
@@ -290,9 +291,10 @@ impl Follower {
         ensures stands { IfOk result (λ change. is_some change ≡ true → IfKnown (M.left mbox.old) (M.left mbox.new) (λ before after.
             (files : Files) → StandsInMbox files self.old before → StandsInMbox files self.new after)) }
         ensures valid { IfOk result (λ change. IfSome change IsValidChange) }
+        ensures given { IfOk result (λ change. is_some change ≡ true → 1 ≤ self.new.mbox.taken) }
         ensures usable { OnOk result (self.new.mbox.refused ≡ false) }
         ensures later { M.faults mbox.old ≤ M.faults mbox.new }
-        ensures cause { IfErr result (IsCause (Rose (M.faults mbox.old) (M.faults mbox.new)) ⊥ ⊥ self.new) }
+        ensures cause { IfErr result (IsCause (Rose (M.faults mbox.old) (M.faults mbox.new)) ⊥ ⊥ (HasTaken self.new) self.new) }
         ensures possible { IfErr result (λ why. (why ≡ fault.Read Mbox) ⊎ (why ≡ fault.Endless Mbox) ⊎ (why ≡ fault.Memory)) }
         ensures took { (bytes : List ℕ) × mbox_reading.Takes (M.left mbox.old) (M.left mbox.new) self.old.mbox self.new.mbox bytes }
         ensures rest { self.new ≡ record self.old { mbox = self.new.mbox } }
@@ -323,7 +325,7 @@ impl Follower {
         ensures within { OnOk result (IsWithin self.new.keeper.state.position) }
         ensures failed { self.new.failed ≡ is_err result }
         ensures later { M.faults mbox.old ≤ M.faults mbox.new }
-        ensures cause { IfErr result (IsCause (Rose (M.faults mbox.old) (M.faults mbox.new)) ⊥ ⊥ self.new) }
+        ensures cause { IfErr result (IsCause (Rose (M.faults mbox.old) (M.faults mbox.new)) ⊥ ⊥ (HasTaken self.new) self.new) }
         ensures possible { IfErr result IsTurnFault }
         ensures took { (bytes : List ℕ) × mbox_reading.Takes (M.left mbox.old) (M.left mbox.new) self.old.mbox self.new.mbox bytes }
         ensures lines { self.new.lines ≡ self.old.lines }
@@ -356,6 +358,7 @@ impl Follower {
         requires usable { self.old.mbox.refused ≡ false }
         requires failed { self.old.failed ≡ true }
         requires moment { MakesMoment step }
+        requires counted { position.lines ≤ self.old.lines.taken }
         ensures makes { IfOk result (λ made. (files : Files) → IfKnown (M.left mbox.old) (M.left mbox.new) (λ before after.
             StandsInMbox files self.old before
             → Makes files step self.old.keeper.state.mailbox.next_uid position (mails_ahead self.old before) made (mails_ahead self.new after)
@@ -366,7 +369,7 @@ impl Follower {
         ensures bare { IfErr result (λ why. IfKnown (M.left mbox.old) (M.left mbox.new) (λ before after.
             LacksMail step position.lines (mails_ahead self.old before) why)) }
         ensures later { M.faults mbox.old ≤ M.faults mbox.new }
-        ensures cause { IfErr result (IsCause (Rose (M.faults mbox.old) (M.faults mbox.new)) ⊥ ⊥ self.new) }
+        ensures cause { IfErr result (IsCause (Rose (M.faults mbox.old) (M.faults mbox.new)) ⊥ ⊥ (HasTaken self.new) self.new) }
         ensures possible { IfErr result IsTurnFault }
         ensures not_full { IfErr result (λ why. why ≢ fault.Full) }
         ensures took { (bytes : List ℕ) × mbox_reading.Takes (M.left mbox.old) (M.left mbox.new) self.old.mbox self.new.mbox bytes }
@@ -410,11 +413,12 @@ impl Follower {
         ensures store { self.new.keeper.store ≡ self.old.keeper.store }
         ensures within { OnOk result (IsWithin self.new.keeper.state.position) }
         ensures place { OnOk result (self.new.lines.place ≡ self.new.keeper.state.position.steps) }
+        ensures fed { OnOk result (IsFedFrom self.old.keeper.state self.new) }
         ensures failed { self.new.failed ≡ is_err result }
         ensures mbox_later { M.faults mbox.old ≤ M.faults mbox.new }
         ensures steps_later { S.faults steps_file.old ≤ S.faults steps_file.new }
         ensures cause { IfErr result (IsCause (Rose (M.faults mbox.old) (M.faults mbox.new))
-            (Rose (S.faults steps_file.old) (S.faults steps_file.new)) ⊥ self.new) }
+            (Rose (S.faults steps_file.old) (S.faults steps_file.new)) ⊥ (HasTaken self.new) self.new) }
         ensures possible { IfErr result IsTurnFault }
         ensures mbox_took { (bytes : List ℕ) × mbox_reading.Takes (M.left mbox.old) (M.left mbox.new) self.old.mbox self.new.mbox bytes }
         ensures steps_took { (bytes : List ℕ) × steps_reading.Takes (S.left steps_file.old) (S.left steps_file.new) self.old.lines self.new.lines bytes }

@@ -9,7 +9,8 @@ ghost use Rattle.steps_file.specs.Reading as steps_reading;
 ghost use Rattle.keeper.specs.Keeping.{IsKept};
 ghost use Rattle.follower.specs.Committing.{AllGo, CommitGoes, EndGoes, LastGoes, LastToCome, LinesToCome, MailsToCome, NothingToCome, OnWay, Outset, Prefix, RoundGoes, Way};
 ghost use Rattle.follower.specs.Feed.{Feed, Files};
-ghost use Rattle.follower.specs.Following.{IsCause, IsFollowFault, Raises};
+ghost use Rattle.state_store.specs.States.{max_changes};
+ghost use Rattle.follower.specs.Following.{HasTaken, IsCause, IsFedFrom, IsFollowFault, Raises};
 ghost use Rattle.follower.specs.Spending.{counts};
 ghost use Rattle.follower.specs.declared.fault.RunFault.TheVariants as fault;
 
@@ -46,7 +47,7 @@ pub fn commit_if_full<H: Shelf, L: Ledger>(
     ensures mbox { follower.new.mbox ≡ follower.old.mbox }
     ensures lines { follower.new.lines ≡ follower.old.lines }
     ensures later { H.faults shelf.old ≤ H.faults shelf.new }
-    ensures cause { IfErr result (IsCause ⊥ ⊥ (Rose (H.faults shelf.old) (H.faults shelf.new)) follower.new) }
+    ensures cause { IfErr result (IsCause ⊥ ⊥ (Rose (H.faults shelf.old) (H.faults shelf.new)) ⊥ follower.new) }
     ensures possible { IfErr result (λ why. (why ≡ fault.Disk) ⊎ (why ≡ fault.Memory)) }
 {
     if follower.pending() < MAX_PENDING {
@@ -82,7 +83,7 @@ fn round_of_mail<M: Source, H: Shelf, L: Ledger>(
     ensures later { M.faults mbox.old ≤ M.faults mbox.new }
     ensures shelf_later { H.faults shelf.old ≤ H.faults shelf.new }
     ensures cause { IfErr result (IsCause (Rose (M.faults mbox.old) (M.faults mbox.new)) ⊥
-        (Rose (H.faults shelf.old) (H.faults shelf.new)) follower.new) }
+        (Rose (H.faults shelf.old) (H.faults shelf.new)) (HasTaken follower.new) follower.new) }
     ensures possible { IfErr result IsFollowFault }
     ensures took { (bytes : List ℕ) × mbox_reading.Takes (M.left mbox.old) (M.left mbox.new) follower.old.mbox follower.new.mbox bytes }
     ensures lines { follower.new.lines ≡ follower.old.lines }
@@ -118,7 +119,7 @@ pub fn follow_mails<M: Source, H: Shelf, L: Ledger>(
     ensures later { M.faults mbox.old ≤ M.faults mbox.new }
     ensures shelf_later { H.faults shelf.old ≤ H.faults shelf.new }
     ensures cause { IfErr result (IsCause (Rose (M.faults mbox.old) (M.faults mbox.new)) ⊥
-        (Rose (H.faults shelf.old) (H.faults shelf.new)) follower.new) }
+        (Rose (H.faults shelf.old) (H.faults shelf.new)) (HasTaken follower.new) follower.new) }
     ensures possible { IfErr result IsFollowFault }
     ensures took { (bytes : List ℕ) × mbox_reading.Takes (M.left mbox.old) (M.left mbox.new) follower.old.mbox follower.new.mbox bytes }
     ensures lines { follower.new.lines ≡ follower.old.lines }
@@ -155,6 +156,7 @@ fn round_of_line<M: Source, S: Source, H: Shelf, L: Ledger>(
     ensures usable { OnOk result (follower.new.failed ≡ false) }
     ensures few { OnOk result (follower.new.keeper.pending.count ≤ 256) }
     ensures place { OnOk result (follower.new.lines.place ≡ follower.new.keeper.state.position.steps) }
+    ensures fed { OnOk result (IsFedFrom follower.old.keeper.state follower.new) }
     ensures kept { OnOk result (WhereKnown (H.seen shelf.new) (IsKept follower.new.keeper)) }
     ensures stored { OnOk result (WhereKnown (H.seen shelf.new) (IsStored follower.new.keeper.store (H.may_leave shelf.new))) }
     ensures raised { IfOk result (Raises follower.old.keeper follower.new.keeper) }
@@ -162,7 +164,8 @@ fn round_of_line<M: Source, S: Source, H: Shelf, L: Ledger>(
     ensures steps_later { S.faults steps_file.old ≤ S.faults steps_file.new }
     ensures shelf_later { H.faults shelf.old ≤ H.faults shelf.new }
     ensures cause { IfErr result (IsCause (Rose (M.faults mbox.old) (M.faults mbox.new))
-        (Rose (S.faults steps_file.old) (S.faults steps_file.new)) (Rose (H.faults shelf.old) (H.faults shelf.new)) follower.new) }
+        (Rose (S.faults steps_file.old) (S.faults steps_file.new)) (Rose (H.faults shelf.old) (H.faults shelf.new))
+        (HasTaken follower.new) follower.new) }
     ensures possible { IfErr result IsFollowFault }
     ensures mbox_took { (bytes : List ℕ) × mbox_reading.Takes (M.left mbox.old) (M.left mbox.new) follower.old.mbox follower.new.mbox bytes }
     ensures steps_took { (bytes : List ℕ) × steps_reading.Takes (S.left steps_file.old) (S.left steps_file.new) follower.old.lines follower.new.lines bytes }
@@ -195,13 +198,15 @@ pub fn follow_lines<M: Source, S: Source, H: Shelf, L: Ledger>(
         (counts steps.new (H.written shelf.new)) (H.seen shelf.new) (H.may_leave shelf.new) }
     ensures usable { OnOk result (follower.new.failed ≡ false) }
     ensures few { OnOk result (follower.new.keeper.pending.count ≤ 256) }
+    ensures fed { OnOk result (IsFedFrom follower.old.keeper.state follower.new) }
     ensures kept { OnOk result (WhereKnown (H.seen shelf.new) (IsKept follower.new.keeper)) }
     ensures stored { OnOk result (WhereKnown (H.seen shelf.new) (IsStored follower.new.keeper.store (H.may_leave shelf.new))) }
     ensures mbox_later { M.faults mbox.old ≤ M.faults mbox.new }
     ensures steps_later { S.faults steps_file.old ≤ S.faults steps_file.new }
     ensures shelf_later { H.faults shelf.old ≤ H.faults shelf.new }
     ensures cause { IfErr result (IsCause (Rose (M.faults mbox.old) (M.faults mbox.new))
-        (Rose (S.faults steps_file.old) (S.faults steps_file.new)) (Rose (H.faults shelf.old) (H.faults shelf.new)) follower.new) }
+        (Rose (S.faults steps_file.old) (S.faults steps_file.new)) (Rose (H.faults shelf.old) (H.faults shelf.new))
+        (HasTaken follower.new) follower.new) }
     ensures possible { IfErr result IsFollowFault }
     ensures mbox_took { (bytes : List ℕ) × mbox_reading.Takes (M.left mbox.old) (M.left mbox.new) follower.old.mbox follower.new.mbox bytes }
     ensures steps_took { (bytes : List ℕ) × steps_reading.Takes (S.left steps_file.old) (S.left steps_file.new) follower.old.lines follower.new.lines bytes }
@@ -239,7 +244,8 @@ pub fn make_last<H: Shelf, L: Ledger>(
     ensures kept { OnOk result (WhereKnown (H.seen shelf.new) (IsKept follower.new.keeper)) }
     ensures stored { OnOk result (WhereKnown (H.seen shelf.new) (IsStored follower.new.keeper.store (H.may_leave shelf.new))) }
     ensures later { H.faults shelf.old ≤ H.faults shelf.new }
-    ensures cause { IfErr result (IsCause ⊥ ⊥ (Rose (H.faults shelf.old) (H.faults shelf.new)) follower.new) }
+    ensures cause { IfErr result (IsCause ⊥ ⊥ (Rose (H.faults shelf.old) (H.faults shelf.new))
+        (max_changes ≤ follower.old.keeper.state.position.count) follower.new) }
     ensures possible { IfErr result IsFollowFault }
     ensures mbox { follower.new.mbox ≡ follower.old.mbox }
     ensures lines { follower.new.lines ≡ follower.old.lines }
@@ -269,7 +275,7 @@ pub fn commit_all<H: Shelf, L: Ledger>(
         × EndGoes result start feed follower.new.keeper (counts steps.new (H.written shelf.new)) (H.may_leave shelf.new) }
     ensures usable { OnOk result (follower.new.failed ≡ false) }
     ensures later { H.faults shelf.old ≤ H.faults shelf.new }
-    ensures cause { IfErr result (IsCause ⊥ ⊥ (Rose (H.faults shelf.old) (H.faults shelf.new)) follower.new) }
+    ensures cause { IfErr result (IsCause ⊥ ⊥ (Rose (H.faults shelf.old) (H.faults shelf.new)) ⊥ follower.new) }
     ensures possible { IfErr result (λ why. (why ≡ fault.Disk) ⊎ (why ≡ fault.Memory)) }
     ensures mbox { follower.new.mbox ≡ follower.old.mbox }
     ensures lines { follower.new.lines ≡ follower.old.lines }

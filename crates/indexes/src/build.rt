@@ -11,6 +11,7 @@ ghost use Rattle.mailbox_model.specs.Present.{Mail, contents, mail_at, present, 
 ghost use Rattle.mailbox_model.specs.Rows.{expiry, row};
 ghost use Rattle.mailbox_model.specs.States.{Shown};
 ghost use Rattle.mailbox_model.specs.Turns.{is_mail};
+ghost use Rattle.touched_chats.specs.Costs.{build_reads};
 ghost use Rattle.indexes.specs.Costs.{load, pairs, times_named};
 ghost use Rattle.indexes.specs.Kept.{AreDated, AreDeadlines, AreKept, AreOf, AreStates, deadline_at, spot_at};
 
@@ -31,13 +32,17 @@ use timers::Timers;
 impl Indexes {
     /// The indexes of a mailbox, built in one pass over its cards in mail order, and one over what is shown of them. Takes
     /// memory; `Err` only when it runs out.
+    ///
+    /// - `cost`: each present card is read once, and each of a chat once more, with the cards that name it.
+    /// - `load`: so kept cards are read no more often than the load of the mailbox says.
     pub fn build<L: Ledger>(
         alloc: Global,
         mailbox: &Mailbox,
         steps: &mut Steps<L>,
     ) -> Result<Self, Memory>
         ensures kept { IfOk result (AreKept mailbox.now.mailbox) }
-        ensures cost { steps.new ≤ steps.old + load mailbox.now.mailbox }
+        ensures cost { steps.new ≤ steps.old + build_reads mailbox.now.mailbox }
+        ensures load { steps.new ≤ steps.old + load mailbox.now.mailbox }
     {
         let spots = present_spots(alloc, mailbox)?;
         let mut indexes = Indexes::new(alloc);

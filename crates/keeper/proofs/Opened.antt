@@ -1,5 +1,6 @@
 -- What is kept after an opening, and why nothing is opened.
-use Rattle.std.proofs.Common.{◌≡◌, ℕ, Option, Result, Ok, Err, sym, ◌∙◌, ap}
+use Rattle.std.proofs.Common.{◌≡◌, ◌≢◌, ℕ, ◌+◌, ◌≤◌, Option, Result, Ok, Err, sym, ◌∙◌, ap, arith}
+use Rattle.std.specs.Prelude.{IfOk}
 use Rattle.outside.specs.declared.shelf.Place.{Place}
 use Rattle.outside.specs.Places.{Places}
 use Rattle.outside.specs.Moments.{KnownThen, WhereKnown}
@@ -7,15 +8,20 @@ use Rattle.outside.specs.StateFaults.{Fails}
 use Rattle.outside.specs.declared.faults.StateFault.{StateFault}
 use Rattle.outside.specs.declared.faults.StateFault.TheVariants as of_state
 use Rattle.mailbox_model.specs.Lists.{Bytes}
+use Rattle.mailbox_model.specs.Mailbox.{Mailbox}
+use Rattle.touched_chats.specs.Costs.{build_reads}
+use Rattle.touched_chats.proofs.Rebuilding.{build_after_all}
+use Rattle.indexes.specs.Costs.{load}
+use Rattle.indexes.proofs.Loads.{build_fits}
 use Rattle.state_store.specs.States.{State}
-use Rattle.state_store.specs.Stands.{found_of, stand_of, stands}
+use Rattle.state_store.specs.Stands.{Found, begins, changes_in, found_of, stand_of, stands, ComesOf}
 use Rattle.state_store.specs.Stored.{IsStored, SameFound}
 use Rattle.state_store.specs.declared.store.Store.{Store}
 use Rattle.state_store.proofs.Appending.{is_settled}
 use Rattle.keeper.specs.declared.fault.KeepFault.{KeepFault}
 use Rattle.keeper.specs.declared.fault.KeepFault.TheVariants as fault
 use Rattle.keeper.specs.Keeping.{Keeping, IsKept}
-use Rattle.keeper.specs.Opening.{AllFindSame, IsNotOwn, IsOpenCause, OnOtherMe, state_fault}
+use Rattle.keeper.specs.Opening.{AllFindSame, IsNotOwn, IsOpenCause, OnOtherMe, load_of, opening_cost, state_fault}
 use Rattle.tail_journal.specs.Pending.{none_pending}
 use Rattle.keeper.proofs.Keeping.{kept_alone}
 
@@ -54,3 +60,30 @@ others_stand me stand s (fault.Damaged place at) is not = absurd not
 others_stand me stand s (fault.OtherMe other) is not = record { state = s; is = is; whose = not.0; differs = not.1 }
 others_stand me stand s fault.Full is not = absurd not
 others_stand me stand s fault.Memory is not = tt
+
+-- an opening finds no place full
+
+pub state_not_full : (why : StateFault) → state_fault why ≢ fault.Full
+state_not_full of_state.Disk is = cc
+state_not_full (of_state.Damaged place at) is = cc
+state_not_full of_state.Memory is = cc
+
+pub own_not_full : (me : Bytes) (m : Mailbox) (why : KeepFault) → IsNotOwn me m why → why ≢ fault.Full
+own_not_full me m fault.Full not is = not
+own_not_full me m fault.Disk not is = not
+own_not_full me m (fault.Damaged place at) not is = not
+own_not_full me m (fault.OtherMe other) not is = cc
+own_not_full me m fault.Memory not is = cc
+
+-- ---- what an opening reads
+
+-- where what is read goes with the mailbox of the state that stands, however often that is
+pub opening_fits : (me : Bytes) (found : Result Found (Place × ℕ)) (s : State) (old new : ℕ) → stand_of me found ≡ Ok s
+    → IfOk found (λ f. ComesOf me f s.mailbox) → new ≤ old + build_reads s.mailbox → new ≤ old + opening_cost me found
+opening_fits me (Err bad) s old new stood comes reads = absurd (cc)
+opening_fits me (Ok found) s old new stood comes reads =
+    let begun = (begins me found.kept).mailbox in
+    let changes = changes_in found.groups in
+    let stand : load_of (stand_of me (Ok found)) ≡ load s.mailbox = ap load_of stood in
+    let grown = build_after_all begun changes comes.rules comes.allowed in
+    omega (arith, stand, grown, reads, ap build_reads comes.is, build_fits s.mailbox, build_fits begun)

@@ -1,11 +1,13 @@
 -- What an opening answers.
-use Rattle.std.specs.Prelude.{◌≡◌, ◌≢◌, ⊤, ℕ, Result, Ok, Err}
+use Rattle.std.specs.Prelude.{◌≡◌, ◌≢◌, ◌+◌, ⊤, ℕ, min, Result, Ok, Err}
 use Rattle.outside.specs.declared.shelf.Place.{Place}
 use Rattle.outside.specs.Places.{Places}
 use Rattle.mailbox_model.specs.Lists.{Bytes}
 use Rattle.mailbox_model.specs.Mailbox.{Mailbox}
+use Rattle.touched_chats.specs.Costs.{change_costs}
 use Rattle.indexes.specs.Costs.{load}
 use Rattle.state_store.specs.States.{State}
+use Rattle.state_store.specs.Stands.{Found, begins, changes_in, stand_of}
 use Rattle.state_store.specs.Stored.{SameFound}
 use Rattle.outside.specs.declared.faults.StateFault.{StateFault}
 use Rattle.outside.specs.declared.faults.StateFault.TheVariants as of_state
@@ -47,10 +49,23 @@ abbrev pub Opens : Bytes → Result Keeping KeepFault → Result State (Place ×
 Opens me (Ok k) stand = (stand ≡ Ok k.state) × (k.state.mailbox.me ≡ me)
 Opens me (Err why) stand = IsOpenCause me stand why
 
--- how many reads of kept cards the state that stands takes to be opened
+-- ---- how many reads of kept cards an opening may take
+
+-- the load of the state that stands
 abbrev pub load_of : Result State (Place × ℕ) → ℕ
 load_of (Ok s) = load s.mailbox
 load_of (Err damage) = 0
+
+-- the load of what the chosen slot keeps, and what each change of the groups costs
+abbrev pub restoring_cost : Bytes → Found → ℕ
+restoring_cost me found = let begun = (begins me found.kept).mailbox in load begun + change_costs begun (changes_in found.groups)
+
+-- the lesser of both; what is damaged is not read
+abbrev pub opening_cost : Bytes → Result Found (Place × ℕ) → ℕ
+opening_cost me (Ok found) = min (load_of (stand_of me (Ok found))) (restoring_cost me found)
+opening_cost me (Err damage) = 0
+
+-- ---- the own address
 
 -- the mailbox is of another address than this, unless memory ran out
 abbrev pub IsNotOwn : Bytes → Mailbox → KeepFault → Type 0

@@ -1,5 +1,5 @@
 //! The keeper of a mailbox.
-ghost use Rattle.std.specs.Prelude.{◌≡◌, ◌≤◌, ◌<◌, ◌+◌, ◌^◌, ◌⊎◌, false, true, Ok, IfOk, IfErr, OnOk, IsErrOf, length};
+ghost use Rattle.std.specs.Prelude.{◌≡◌, ◌≢◌, ◌≤◌, ◌<◌, ◌+◌, ◌^◌, ◌⊎◌, false, true, Ok, IfOk, IfErr, OnOk, IsErrOf, length};
 ghost use Rattle.outside.specs.Causes.{Rose};
 ghost use Rattle.outside.specs.Crash.{RisesUpTo};
 ghost use Rattle.outside.specs.Moments.{LeavesOnly, Reached, WhereKnown, KnownThen};
@@ -85,9 +85,9 @@ fn has_offsets(position: Position)
 
 impl Keeper {
     ghost use Rattle.indexes.specs.Costs.{load};
-    ghost use Rattle.keeper.specs.Opening.{load_of};
+    ghost use Rattle.keeper.specs.Opening.{opening_cost};
     ghost use Rattle.state_store.specs.Commits.{OldOrNew, commit_reads, commit_writes, fill_of, fill_with};
-    ghost use Rattle.state_store.specs.Stands.{stands};
+    ghost use Rattle.state_store.specs.Stands.{found_of, stands};
     ghost use Rattle.state_store.specs.States.{IsWithin};
     ghost use Rattle.state_store.specs.Stored.{IsStored, SameFound, fill_in};
 
@@ -102,7 +102,8 @@ impl Keeper {
     /// - `any_moment`: a crash at any moment leaves that in which the same is found as in what it might have left at the start.
     /// - `other`: after `OtherMe` each crash outcome has that in which the same is found as in what the reads gave at the start.
     /// - `written`: nothing is written.
-    /// - `load`, `cost`: it reads kept cards no more often than the load of the mailbox says, whatever is answered.
+    /// - `load`, `cost`: it reads kept cards no more often than the load of the mailbox says, whatever is answered, nor than that
+    ///   of what the chosen slot keeps and the cost of each change after it.
     pub fn open<H: Shelf, L: Ledger>(
         alloc: Global,
         me: &Addr,
@@ -122,9 +123,10 @@ impl Keeper {
         ensures written { H.written shelf.new ≡ H.written shelf.old }
         ensures fill { IfOk result (λ k. WhereKnown (H.seen shelf.old) (λ places. fill_of k.store ≡ fill_in places)) }
         ensures load { IfOk result (λ k. steps.new ≤ steps.old + load k.state.mailbox) }
-        ensures cost { WhereKnown (H.seen shelf.old) (λ places. steps.new ≤ steps.old + load_of (stands me.now places)) }
+        ensures cost { WhereKnown (H.seen shelf.old) (λ places. steps.new ≤ steps.old + opening_cost me.now (found_of places)) }
         ensures later { H.faults shelf.old ≤ H.faults shelf.new }
         ensures cause { IsErrOf result KeepFault.Disk → Rose (H.faults shelf.old) (H.faults shelf.new) }
+        ensures not_full { IfErr result (λ why. why ≢ fault.Full) }
     {
         let Opened {
             store,

@@ -1,6 +1,6 @@
 -- The answer of a reader that goes to the next separator line, and then reads a mail.
-use Rattle.std.proofs.Common.{◌≡◌, ℕ, ◌+◌, ◌<◌, ◌≤◌, true, false, List, [], ◌++◌, length, take, refl, sym, ap, subst, ◌∙◌, append_assoc, arith, Option, None, Some, Vec, Global}
-use Rattle.std.proofs.lemmas.List.{length-take, take_all}
+use Rattle.std.proofs.Common.{◌≡◌, ◌≢◌, ℕ, ◌+◌, ◌<◌, ◌≤◌, true, false, List, [], ◌∷◌, ◌++◌, length, take, refl, sym, ap, subst, ◌∙◌, append_assoc, arith, Option, None, Some, Vec, Global}
+use Rattle.std.proofs.lemmas.List.{length-append, length-take, take_all}
 use Rattle.std.specs.Io.KnownBytes.{IsAtEnd}
 use Rattle.source_buffer.specs.Known.{IfKnown}
 use Rattle.mboxrd.specs.declared.taken.Taken.{Taken}
@@ -41,3 +41,19 @@ answer_known (Some l) None old new p answer takes end answers = absurd takes.lef
 answer_known (Some l) (Some m) old new p answer takes end answers =
     let P : List ℕ → Type 0 = λ b. IsNext (mails_from (position old) (old.held ++ b)) answer old new (mails_from (position new) (new.held ++ m)) in
     subst P (sym takes.left) (answers m (λ e. (end e).0))
+
+-- what is no end comes of some bytes
+pub given_some : (old new : Reading) (bytes : List ℕ) (answer : Taken) → answer ≢ taken.End → Decides old bytes answer new → length old.held ≤ old.taken
+    → new.taken ≡ old.taken + length bytes → 1 ≤ new.taken
+given_some old new bytes answer some decides held count = by (old.held ++ (bytes ++ [])) refl (decides [] (λ e. refl))
+  where
+    no_mail : (a : Taken) (others : List Mail) → a ≢ taken.End → IsNext [] a old new others → ⊥
+    no_mail taken.End others some next = some refl
+    no_mail taken.TooLong others some next = next
+    no_mail (taken.Mail v) others some next = next
+
+    by : (all : List ℕ) → old.held ++ (bytes ++ []) ≡ all
+        → IsNext (mails_from (position old) all) answer old new (mails_from (position new) (new.held ++ [])) → 1 ≤ new.taken
+    by [] is next = absurd (no_mail answer (mails_from (position new) (new.held ++ [])) some next)
+    by (b ∷ all) is next =
+        omega (arith, ap length is, length-append old.held (bytes ++ []), length-append bytes [], held, count)

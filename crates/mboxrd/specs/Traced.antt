@@ -1,5 +1,5 @@
 -- What a reader adds to its trace: the bytes that it passes, but for what may be of the next separator line.
-use Rattle.std.specs.Prelude.{◌≡◌, ◌≢◌, ⊤, ℕ, Bool, true, false, List, [], ◌++◌, take, Option, None, Some}
+use Rattle.std.specs.Prelude.{◌≡◌, ⊤, ℕ, Bool, true, false, List, [], ◌++◌, take, Option, None, Some}
 use Rattle.kit.specs.Chains.{Adds, Cut}
 use Rattle.mboxrd.specs.declared.line_state.LineState.{LineState}
 use Rattle.mboxrd.specs.declared.line_state.LineState.TheVariants.{From}

@@ -248,6 +248,8 @@ impl MboxReader {
         ensures end { OnOk result (self.new.at_separator ≡ false → IsAtEnd (S.left source.new) × (self.new.held ≡ [])) }
         ensures usable { OnOk result (self.new.refused ≡ false) }
         ensures refused { OnErr result (self.new.refused ≡ true) }
+        // Whatever the source tells, a mail comes only after bytes that it gave.
+        ensures given { IfOk result (λ answer. answer ≢ taken.End → 1 ≤ self.new.taken) }
         // At a mail the place is where the next one begins, and at the end it stays.
         ensures placed { IfOk result (λ answer. answer ≢ taken.End → self.new.place ≡ position self.new) }
         ensures stays { IfOk result (λ answer. answer ≡ taken.End → (self.new.place ≡ self.old.place) × (self.new.trace ≡ self.old.trace)) }

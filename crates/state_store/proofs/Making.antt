@@ -4,13 +4,15 @@ use Rattle.std.proofs.lemmas.List.{map-append}
 use Rattle.std.specs.List.{AllByRecursion}
 use Rattle.std.proofs.lemmas.Bool.{cases_Bool}
 use Rattle.mailbox_model.specs.declared.change.Change.{Change}
-use Rattle.mailbox_model.specs.Mailbox.{Mailbox, after, full}
+use Rattle.mailbox_model.specs.Mailbox.{Mailbox, after, after_all, full, AreAllowed, IsMailbox}
 use Rattle.card_record.specs.Reading.{◌>>=◌}
+use Rattle.state_image.specs.Changes.{FitsChange}
+use Rattle.state_image.proofs.ChangeLaws.{valid_change}
 use Rattle.tail_journal.specs.Groups.{Applied}
 use Rattle.tail_journal.specs.Read.{applied_of, Fails, FitsApplied}
 use Rattle.tail_journal.specs.declared.group.Group.{Group}
 use Rattle.state_store.specs.States.{State}
-use Rattle.state_store.specs.Stands.{made, after_group, after_groups}
+use Rattle.state_store.specs.Stands.{made, after_group, after_groups, changes_in, ComesBy}
 use Rattle.outside.specs.declared.faults.StateFault.{StateFault}
 use Rattle.tail_journal.proofs.Steps.{fails_first}
 
@@ -99,3 +101,51 @@ pub group_fits : (items taken : List Group) (group : Group) → map (λ x. x) ta
 group_fits items taken group so_far turn fit =
     all_at FitsApplied (map applied_of taken) (applied_of group) (map applied_of (drop (suc (length taken)) items))
     (subst (AllByRecursion FitsApplied) (next_group items taken group so_far turn) fit)
+
+-- ---- what is made is allowed
+
+allowed_on : (m : Mailbox) (xs ys : List Change) → AreAllowed m xs → AreAllowed (after_all m xs) ys → AreAllowed m (xs ++ ys)
+allowed_on m [] ys first then = then
+allowed_on m (x ∷ xs) ys first then = (first.0, first.1, allowed_on (after m x) xs ys first.2 then)
+
+after_both : (m : Mailbox) (xs ys : List Change) → after_all m (xs ++ ys) ≡ after_all (after_all m xs) ys
+after_both m [] ys = refl
+after_both m (x ∷ xs) ys = after_both (after m x) xs ys
+
+-- of two mailboxes, by changes
+abbrev Leads : Mailbox → List Change → Mailbox → Type 0
+Leads m changes n = AreAllowed m changes × (n ≡ after_all m changes)
+
+made_leads : (m n : Mailbox) (xs : List (ℕ × Change)) → AllByRecursion (λ x. FitsChange x.1) xs → made m xs ≡ Ok n → Leads m (map (λ x. x.1) xs) n
+made_leads m n [] fits is = let same : m ≡ n = cc in (tt, sym same)
+made_leads m n (x ∷ xs) fits is = elim (cases_Bool (full m x.1)) [
+  | inl lacks ↦ let none : Err x.0 ≡ Ok n = sym (ap (λ (b : Bool). cond b (Err x.0) (made (after m x.1) xs)) lacks) ∙ is in absurd (cc)
+  | inr has ↦
+      let rest = made_leads (after m x.1) n xs fits.1 (sym (ap (λ (b : Bool). cond b (Err x.0) (made (after m x.1) xs)) has) ∙ is) in
+      ((valid_change x.1 fits.0, has, rest.0), rest.1)
+]
+
+groups_lead : (s t : State) (groups : List Applied) → AllByRecursion FitsApplied groups → after_groups s groups ≡ Ok t → Leads s.mailbox (changes_in groups) t.mailbox
+groups_lead s t [] fit is = let same : s ≡ t = cc in (tt, ap (λ (x : State). x.mailbox) (sym same))
+groups_lead s t (group ∷ more) fit is = by (made s.mailbox group.changes) refl is (λ next. groups_lead next t more fit.1)
+  where
+    held : List Change
+    held = map (λ x. x.1) group.changes
+
+    by : (r : Result Mailbox ℕ) → made s.mailbox group.changes ≡ r
+        → ((r >>= λ m. Ok (record { mailbox = m; position = group.position })) >>= λ (next : State). after_groups next more) ≡ Ok t
+        → ((next : State) → after_groups next more ≡ Ok t → Leads next.mailbox (changes_in more) t.mailbox)
+        → Leads s.mailbox (held ++ changes_in more) t.mailbox
+    by (Err at) e is others = absurd (cc)
+    by (Ok m) e is others =
+        let first = made_leads s.mailbox m group.changes fit.0.changes e in
+        let rest = others (record { mailbox = m; position = group.position }) is in (
+          allowed_on s.mailbox held (changes_in more) first.0 (subst (λ (n : Mailbox). AreAllowed n (changes_in more)) first.1 rest.0),
+          rest.1 ∙ ap (λ (n : Mailbox). after_all n (changes_in more)) first.1 ∙ sym (after_both s.mailbox held (changes_in more)),
+        )
+
+pub comes_by : (begun s t : State) (groups : List Applied) → s ≡ begun → IsMailbox s.mailbox → AllByRecursion FitsApplied groups → after_groups s groups ≡ Ok t
+    → ComesBy begun.mailbox (changes_in groups) t.mailbox
+comes_by begun s t groups same rules fit is =
+    let leads = groups_lead s t groups fit is in
+    subst (λ (x : State). ComesBy x.mailbox (changes_in groups) t.mailbox) same (record { rules = rules; allowed = leads.0; is = leads.1 })

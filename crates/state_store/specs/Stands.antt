@@ -1,11 +1,11 @@
 -- The state that stands in the three places: that of the chosen slot after the groups of T.
-use Rattle.std.specs.Prelude.{ℕ, List, [], ◌∷◌, Option, None, Some, option_map, Result, Ok, Err, if◌then◌else◌}
+use Rattle.std.specs.Prelude.{◌≡◌, ℕ, List, [], ◌∷◌, flat_map, map, Option, None, Some, option_map, Result, Ok, Err, if◌then◌else◌}
 use Rattle.outside.specs.declared.shelf.Place.{Place}
 use Rattle.outside.specs.declared.shelf.Place.TheVariants.{T}
 use Rattle.outside.specs.Places.{Places}
 use Rattle.mailbox_model.specs.declared.change.Change.{Change}
 use Rattle.mailbox_model.specs.Lists.{Bytes}
-use Rattle.mailbox_model.specs.Mailbox.{Mailbox, after, full}
+use Rattle.mailbox_model.specs.Mailbox.{Mailbox, after, after_all, full, AreAllowed, IsMailbox}
 use Rattle.card_record.specs.Reading.{◌>>=◌}
 use Rattle.state_image.specs.declared.position.Position.{Position}
 use Rattle.checkpoint.specs.Kept.{kept_of}
@@ -26,6 +26,16 @@ after_group s group = made s.mailbox group.changes >>= λ m. Ok (record { mailbo
 abbrev pub after_groups : State → List Applied → Result State ℕ
 after_groups s [] = Ok s
 after_groups s (group ∷ more) = after_group s group >>= λ next. after_groups next more
+
+-- the changes of groups, in their order
+abbrev pub changes_in : List Applied → List Change
+changes_in groups = flat_map (λ group. map (λ x. x.1) group.changes) groups
+
+-- one mailbox comes of another by changes, each of which is allowed where it comes
+pub record ComesBy (m : Mailbox) (changes : List Change) (n : Mailbox) : Type 0 where
+  pub rules : IsMailbox m
+  pub allowed : AreAllowed m changes
+  pub is : n ≡ after_all m changes
 
 -- ---- what is found
 
@@ -63,3 +73,7 @@ stand_of me (Err bad) = Err bad
 -- for this own address: the state, or the place of the first damage and the offset there
 abbrev pub stands : Bytes → Places → Result State (Place × ℕ)
 stands me places = stand_of me (found_of places)
+
+-- this mailbox comes of that of the chosen slot, by the changes of the groups
+abbrev pub ComesOf : Bytes → Found → Mailbox → Type 0
+ComesOf me found m = ComesBy (begins me found.kept).mailbox (changes_in found.groups) m

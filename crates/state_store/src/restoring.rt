@@ -10,7 +10,7 @@ ghost use Rattle.state_image.specs.Images.{IsPosition};
 ghost use Rattle.checkpoint.specs.Kept.{seen_kept};
 ghost use Rattle.tail_journal.specs.Read.{applied_of, Fails, FitsApplied};
 ghost use Rattle.state_store.specs.States.{IsWithin, state_of};
-ghost use Rattle.state_store.specs.Stands.{made, after_groups, begins, stand_of};
+ghost use Rattle.state_store.specs.Stands.{made, after_groups, begins, stand_of, ComesOf};
 ghost use Rattle.state_store.specs.Making.{Makes};
 
 use box_state::{Mailbox, PlanFault};
@@ -120,9 +120,12 @@ pub fn restore(
     ensures gives { Gives state_of result
         (stand_of me.now (Ok (record { kept = seen_kept kept; groups = map applied_of groups.items }))) }
     ensures within { IfOk result (λ stood. IsWithin stood.1) }
+    ensures comes { IfOk result (λ stood.
+        ComesOf me.now (record { kept = seen_kept kept; groups = map applied_of groups.items }) stood.0.mailbox) }
     ensures no_fault { IfErr result (λ why. why ≢ fault.Disk) }
 {
     let (mut mailbox, mut position) = begin(alloc, me, kept)?;
+    mailbox.keeps_rules();
     make_groups(&mut mailbox, &mut position, groups)?;
     Ok((mailbox, position))
 }

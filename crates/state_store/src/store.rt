@@ -45,7 +45,7 @@ impl Store {
     ghost use Rattle.outside.specs.StateFaults.{Gives};
     ghost use Rattle.state_store.specs.States.{IsWithin};
     ghost use Rattle.state_store.specs.Commits.{Commits, MakeBatch, OldOrNew, commit_reads, commit_writes, falls_due, fill_of, fill_with};
-    ghost use Rattle.state_store.specs.Stands.{stands};
+    ghost use Rattle.state_store.specs.Stands.{found_of, stands, ComesOf};
     ghost use Rattle.state_store.specs.Stored.{state_in, fill_in, IsStored, SameFound};
 
     /// Opens the store of a shelf, for an own address: the state that stands, which is what the chosen slot keeps after the
@@ -56,12 +56,15 @@ impl Store {
     /// to be applied is or has a change for which the mailbox has no place, with the place and the offset there.
     ///
     /// - `gives`: the state is the one that stands in what the reads give at the start.
+    /// - `comes`: its mailbox comes of that of the chosen slot, by changes which that allows.
     /// - `same`, `stored`: after Ok the same is found on the shelf, and it is settled for the store.
     /// - `fill`: the store has a chosen slot where there is one, and as many bytes of the tail as are read.
     /// - `any_moment`: a crash at any moment leaves that in which the same is found as in what it might have left at the start.
     /// - `written`: nothing is written.
     pub fn open<H: Shelf>(alloc: Global, me: &Addr, shelf: &mut H) -> Result<Opened, StateFault>
         ensures gives { WhereKnown (H.seen shelf.old) (λ places. Gives state_in result (stands me.now places)) }
+        ensures comes { IfOk result (λ opened. WhereKnown (H.seen shelf.old) (λ places.
+            IfOk (found_of places) (λ found. ComesOf me.now found opened.mailbox.mailbox))) }
         ensures within { IfOk result (λ opened. IsWithin opened.position) }
         ensures same { OnOk result (KnownThen (H.seen shelf.old) (H.seen shelf.new) SameFound) }
         ensures stored { IfOk result (λ opened. WhereKnown (H.seen shelf.new) (IsStored opened.store (H.may_leave shelf.new))) }

@@ -1,6 +1,6 @@
 -- What a reader adds to its trace.
-use Rattle.std.proofs.Common.{◌≡◌, ℕ, ◌+◌, ◌≤◌, List, ◌++◌, length, take, drop, sym, ap, subst, ◌∙◌, append_assoc, arith, Option, None, Some}
-use Rattle.kit.specs.Chains.{Adds, Cut, StandsFor}
+use Rattle.std.proofs.Common.{◌≡◌, ℕ, ◌≤◌, List, length, take, sym, subst, Option, None, Some}
+use Rattle.kit.specs.Chains.{Cut, StandsFor}
 use Rattle.source_buffer.specs.Known.{IfKnown}
 use Rattle.source_buffer.proofs.Traced.{stands_on}
 use Rattle.steps_file.specs.declared.step.Step.{Step}

@@ -165,6 +165,7 @@ impl StepsReader {
             (λ _. ended_lines (self.old.held ++ bytes) ≡ [])) }
         ensures end { IfOk result (λ answer. answer ≡ taken.End → IsAtEnd (S.left source.new) × (self.new.held ≡ [])) }
         ensures passed { IfOk result (λ answer. answer ≢ taken.End → self.old.place < self.new.place) }
+        ensures within { OnOk result (self.new.place ≤ self.new.taken) }
         ensures moment { IfOk result (λ answer. (n : ℕ) → answer ≡ taken.Step (step.At n) → n ≤ last_moment) }
         ensures usable { OnOk result (self.new.refused ≡ false) }
         ensures refused { OnErr result (self.new.refused ≡ true) }

@@ -49,7 +49,7 @@ abbrev is_content_with : Bytes → Mail → Bool
 is_content_with id t = is_content_mail t && has_id id t
 
 -- a mail that is not about an id does not have it, nor names it
-unlike : (id : Bytes) (t : Mail) → is_about id t ≡ false → (has_id id t ≡ false) × (is_among (names t.placed.card) id ≡ false)
+pub unlike : (id : Bytes) (t : Mail) → is_about id t ≡ false → (has_id id t ≡ false) × (is_among (names t.placed.card) id ≡ false)
 unlike id t h = or_parts (has_id id t) (is_among (names t.placed.card) id) h
 
 -- ---- by the turn

@@ -1,5 +1,5 @@
 -- Sums over the elements that pass tests, and how many are found, each by one of different names.
-use Rattle.std.proofs.Common.{◌≡◌, refl, sym, ◌∙◌, ℕ, ◌+◌, ◌≤◌, Bool, true, false, ◌||◌, cond, Option, Some, None, is_some, List, [], ◌∷◌, length, arith, inl, inr}
+use Rattle.std.proofs.Common.{◌≡◌, refl, sym, ◌∙◌, ℕ, ◌+◌, ◌≤◌, Bool, true, false, not, ◌||◌, cond, Option, Some, None, is_some, List, [], ◌∷◌, length, arith, inl, inr}
 use Rattle.std.specs.Prelude.{filter, find, sum_by}
 use Rattle.std.specs.List.{list_any, AllByRecursion, IsDistinct}
 use Rattle.std.specs.Option.{option_map_or}
@@ -30,6 +30,21 @@ apart_sum {X} f p q h (x ∷ xs) =
     alone true c n g = rw (g refl) (omega arith)
     alone false c n g = omega arith
 
+-- ---- the elements that pass a test, and those that fail it
+
+pub split_sum : {X : Type 0} (f : X → ℕ) (p : X → Bool) (xs : List X)
+    → sum_by f xs ≡ sum_by f (filter p xs) + sum_by f (filter (λ x. not (p x)) xs)
+split_sum f p [] = refl
+split_sum {X} f p (x ∷ xs) =
+    let rest = split_sum f p xs in
+    let passed = sum_filter f (p x) x (filter p xs) in
+    let failed = sum_filter f (not (p x)) x (filter (λ y. not (p y)) xs) in
+    omega (arith, rest, passed, failed, sum_by-cons f x xs, either (p x))
+  where
+    either : (b : Bool) → f x ≡ cond b (f x) 0 + cond (not b) (f x) 0
+    either true = omega arith
+    either false = omega arith
+
 -- ---- more passes give more
 
 pub sum_more : {X : Type 0} (f : X → ℕ) (p q : X → Bool) (xs : List X) → ((x : X) → Among x xs → p x ≡ true → q x ≡ true)
@@ -45,6 +60,17 @@ sum_more f p q (x ∷ xs) h =
     more : (b c : Bool) (n : ℕ) → (b ≡ true → c ≡ true) → cond b n 0 ≤ cond c n 0
     more true c n g = rw (g refl) (omega arith)
     more false c n g = omega arith
+
+-- ---- elements that count alike
+
+pub alike_sum : {X : Type 0} (f g : X → ℕ) (xs : List X) → AllByRecursion (λ x. f x ≡ g x) xs → sum_by f xs ≡ sum_by g xs
+alike_sum f g [] a = refl
+alike_sum f g (x ∷ xs) a =
+    let here = a.0 in
+    let rest = alike_sum f g xs a.1 in
+    let left = sum_by-cons f x xs in
+    let right = sum_by-cons g x xs in
+    omega (arith, here, rest, left, right)
 
 -- ---- the number of elements is a sum
 

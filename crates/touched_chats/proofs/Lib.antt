@@ -24,3 +24,4 @@ pub mod CardsOfSuspects
 pub mod TouchedKeys
 pub mod Counts
 pub mod Repairs
+pub mod Rebuilding

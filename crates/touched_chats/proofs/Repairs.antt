@@ -110,7 +110,7 @@ in_held m held t there each = by (chat m t.placed.card.id) (in_some_chat m t the
         let other = any_found (key_eq key) held (each key (key_self key)) in
         found_any (λ k. key_eq k key) other.it held other.among (key_turn other.it key ∙ other.passes)
 
-one_id : (a b : Bytes) (t : Mail) → has_id a t ≡ true → has_id b t ≡ true → bytes_eq a b ≡ true
+pub one_id : (a b : Bytes) (t : Mail) → has_id a t ≡ true → has_id b t ≡ true → bytes_eq a b ≡ true
 one_id a b t h k =
     (bytes_decides a b).1 ((bytes_decides a t.placed.card.id).0 h ∙ sym ((bytes_decides b t.placed.card.id).0 k))
 
@@ -140,7 +140,7 @@ module _ (m n : Mailbox) (turn : Turn) (me : m.me ≡ n.me) (k : IsMailbox m) (l
       let id = t.placed.card.id in
       in_held m held t there (λ key e. suspect_held id h key (or_left (is_chat key (chat m id)) (is_chat key (chat n id)) e))
 
-  held_after : (t : Mail) → Among t (contents n) → is_suspect_card m n turn t.placed.card.id ≡ true → is_in_any n held t ≡ true
+  pub held_after : (t : Mail) → Among t (contents n) → is_suspect_card m n turn t.placed.card.id ≡ true → is_in_any n held t ≡ true
   held_after t there h =
       let id = t.placed.card.id in
       in_held n held t there (λ key e. suspect_held id h key (or_right (is_chat key (chat m id)) (is_chat key (chat n id)) e))

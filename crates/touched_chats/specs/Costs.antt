@@ -1,5 +1,5 @@
 -- How many reads of kept cards the repair of the touched chats may take.
-use Rattle.std.specs.Prelude.{◌≡◌, ℕ, ◌+◌, ◌*◌, Bool, true, not, ◌&&◌, List, ◌++◌, length, map, filter, find, sum_by, count_by}
+use Rattle.std.specs.Prelude.{◌≡◌, ℕ, ◌+◌, ◌*◌, Bool, true, not, ◌&&◌, List, [], ◌∷◌, ◌++◌, length, map, filter, find, sum_by, count_by}
 use Rattle.std.specs.List.{list_any, AllByRecursion}
 use Rattle.std.specs.Option.{option_eq, option_map_or}
 use Rattle.lists.specs.Distinct.{firsts}
@@ -66,6 +66,11 @@ touched_keys m n turn = filter (is_suspect m n turn) (firsts key_eq (keys n ++ k
 abbrev pub change_cost : Mailbox → Change → ℕ
 change_cost m change = let n = after m change in repair_cost m n (touched_keys m n (turn m change))
 
+-- and those after changes that are made one after the other
+abbrev pub change_costs : Mailbox → List Change → ℕ
+change_costs m [] = 0
+change_costs m (change ∷ changes) = change_cost m change + change_costs (after m change) changes
+
 -- ---- what folding chats anew reads: each card, and for each the cards that name it
 
 abbrev pub row_reads : Mailbox → Mail → ℕ
@@ -76,6 +81,10 @@ chat_reads m key = sum_by (row_reads m) (chat_mails m key)
 
 abbrev pub refold_reads : Mailbox → List ChatKey → ℕ
 refold_reads m keys = sum_by (chat_reads m) keys
+
+-- and where all is made anew, each present card once more
+abbrev pub build_reads : Mailbox → ℕ
+build_reads m = length (present m) + sum_by (row_reads m) (contents m)
 
 -- each of these is among others
 abbrev pub AreHeld : List ChatKey → List ChatKey → Type 0

@@ -9,7 +9,7 @@ ghost use Rattle.card_type.specs.Keys.{key_eq};
 ghost use Rattle.mailbox_model.specs.declared.change.Change.{Change};
 ghost use Rattle.mailbox_model.specs.declared.links.Cites.{Cites};
 ghost use Rattle.mailbox_model.specs.declared.turn.Turn.{Turn};
-ghost use Rattle.mailbox_model.specs.Mailbox.{Mailbox, after, entry_at, full, IsMailbox, IsValidChange};
+ghost use Rattle.mailbox_model.specs.Mailbox.{Mailbox, after, after_all, entry_at, full, AreAllowed, IsMailbox, IsValidChange};
 ghost use Rattle.mailbox_model.specs.Lists.{Bytes};
 ghost use Rattle.mailbox_model.specs.Present.{contents, mail_at, spot_of};
 ghost use Rattle.mailbox_model.specs.Turns.{turn, IsTurn};
@@ -20,7 +20,7 @@ ghost use Rattle.mailbox_model.specs.Pages.{page};
 ghost use Rattle.mailbox_model.specs.ChatList.{list_row};
 ghost use Rattle.mailbox_model.specs.States.{chat_cards};
 ghost use Rattle.touched_chats.specs.Ahead.{entry_ahead, now_ahead, spot_ahead};
-ghost use Rattle.touched_chats.specs.Costs.{by_uid, cards_in, change_cost, citing_unsettled, pairs_of, refold_reads, repair_cost, settle_reads, touched_keys, AreHeld};
+ghost use Rattle.touched_chats.specs.Costs.{build_reads, by_uid, cards_in, change_cost, change_costs, citing_unsettled, pairs_of, refold_reads, repair_cost, settle_reads, touched_keys, AreHeld};
 ghost use Rattle.touched_chats.specs.Suspects.{has_due, is_end, is_moved, is_renamed, is_suspect, is_suspect_card, is_turned, turned, uid_falls_due, CardStays};
 ghost use Rattle.touched_chats.specs.Touched.{has_chat, is_concerned, HoldsTouched, IsTouched};
 
@@ -190,6 +190,18 @@ pub fn a_repair_fits_the_cost()
         → IsDistinct key_eq keys → AreHeld (touched_keys m n (turn m change)) keys → IsDistinct nat_eq uids
         → AllByRecursion (λ uid. uid_falls_due m n.now uid ≡ true) uids
         → sum_by (settle_reads m n) ids + sum_by (λ key. length (chat_mails n key)) keys + length uids + 16 ≤ change_cost m change }
+{}
+
+/// What is kept beside a mailbox may be built anew after changes as well as before them: that reads kept cards no more often
+/// than it did before, and as often as the changes may cost.
+///
+/// - `change`: so it is of a change that a mailbox allows.
+/// - `changes`: and of several, one after the other.
+pub fn building_later_fits_the_cost()
+    ensures change { (m : Mailbox) (change : Change) → IsMailbox m → IsValidChange change → full m change ≡ false
+        → build_reads (after m change) ≤ build_reads m + change_cost m change }
+    ensures changes { (m : Mailbox) (changes : List Change) → IsMailbox m → AreAllowed m changes
+        → build_reads (after_all m changes) ≤ build_reads m + change_costs m changes }
 {}
 
 /// What a change leaves is known before it is made, so that a program may repair first and change the mailbox last.

@@ -7,5 +7,6 @@ mod laws;
 pub use laws::{
     a_card_that_is_not_suspect_stays, a_change_is_told_ahead, a_chat_that_is_not_suspect_stays,
     a_repair_fits_the_cost, a_suspect_chat_has_a_suspect_card, a_suspect_chat_is_touched,
-    a_touched_chat_is_suspect, moves_and_deadlines_tell_the_suspects, refolds_fit_the_cost,
+    a_touched_chat_is_suspect, building_later_fits_the_cost, moves_and_deadlines_tell_the_suspects,
+    refolds_fit_the_cost,
 };

@@ -6,10 +6,9 @@ use Rattle.mailbox_model.specs.declared.change.Change.{Change}
 use Rattle.mailbox_model.specs.declared.change.Change.TheVariants.{At}
 use Rattle.mailbox_model.specs.Lists.{Bytes}
 use Rattle.mailbox_model.specs.Mailbox.{Mailbox, after, empty_mailbox}
-use Rattle.touched_chats.specs.Costs.{change_cost}
+use Rattle.touched_chats.specs.Costs.{change_cost, change_costs}
 use Rattle.arrivals.specs.Arrivals.{arrival_of}
 use Rattle.arrivals.proofs.Uids.{next_uid_after}
-use Rattle.arrivals.specs.Costs.{change_costs}
 use Rattle.trial.specs.Ahead.{ArrivesNext}
 use Rattle.trial.specs.Costs.{making_cost}
 use Rattle.trial.specs.Trials.{after_allowed, arrivals, trial_mails}

@@ -5,7 +5,7 @@ use Rattle.mailbox_model.specs.ChatList.{list_page}
 use Rattle.mailbox_model.specs.Lists.{Bytes}
 use Rattle.mailbox_model.specs.Mailbox.{Mailbox, empty_mailbox}
 use Rattle.indexes.specs.Costs.{list_cost, page_cost}
-use Rattle.arrivals.specs.Costs.{change_costs}
+use Rattle.touched_chats.specs.Costs.{change_costs}
 use Rattle.trial.specs.Trials.{trial_changes, trial_mailbox}
 
 -- for the pages of all chats in the list, one after the other

@@ -1,8 +1,7 @@
 //! The mailbox of a trial.
 ghost use Rattle.std.specs.Prelude.{◌≡◌, ◌≤◌, ◌+◌, [], ◌∷◌, false, Some, MatchResult, OnOk};
 ghost use Rattle.mailbox_model.specs.Mailbox.{IsValidChange};
-ghost use Rattle.touched_chats.specs.Costs.{change_cost};
-ghost use Rattle.arrivals.specs.Costs.{change_costs};
+ghost use Rattle.touched_chats.specs.Costs.{change_cost, change_costs};
 ghost use Rattle.trial.specs.Costs.{making_cost};
 ghost use Rattle.trial.specs.Trials.{after_allowed, arrivals, trial_mailbox};
 ghost use Rattle.trial.specs.Faults.{Makes, IsUnmade};

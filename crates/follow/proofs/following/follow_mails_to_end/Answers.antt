@@ -1,11 +1,12 @@
-use Rattle.std.proofs.Common.{ℕ, Err, ap, subst, sym}
+use Rattle.std.proofs.Common.{Err, inl, inr, ap, subst, sym}
 use Rattle.std.proofs.lemmas.Result.{err_from_is_err_and}
 use Rattle.outside.specs.Moments.{WhereKnown}
 use Rattle.outside.proofs.Moments.{and_then}
 use Rattle.state_store.specs.Stored.{IsStored}
 use Rattle.state_store.specs.declared.store.Store.{Store}
-use Rattle.follower.specs.Committing.{Prefix, Stops, outset}
+use Rattle.follower.specs.Committing.{Prefix, outset}
 use Rattle.follower.specs.Spending.{counts}
+use Rattle.follower.proofs.Going.{cause_since, full_caused, moment_filled}
 use Rattle.follower.proofs.Rounds.{nothing_leaves}
 use Rattle.follow.proofs.Followed.{first_way, moment_costs, moment_made, moment_refused, whole}
 use Rattle.follow.proofs.following.follow_mails_to_end.Goals as goal
@@ -62,3 +63,14 @@ returns-clause-goes g c = λ files rest mails is stands ahead known.
       and_then H.moment H.left_since shelf mid new (Prefix k.state feed) (Prefix k.state feed) (Prefix k.state feed) first.0 second.0 (λ _ x. x) (λ _ x. x),
       second.1,
     )
+
+pub returns-in_err-at-clause-cause : goal.returns-in_err-at-clause-cause
+returns-in_err-at-clause-cause g c =
+    let p = err_from_is_err_and c.from_residual.result c.from_residual.ensures.1 in
+    rw (p.1, p.2) (full_caused _ _ _ _ c.at.new.self c.in_err-at.field-0.0 c.in_err-at.ensures.cause
+    (λ is. inr (moment_filled c.args.follower.now.keeper.state c.args.moment (c.in_err-at.ensures.full (ap Err is)))))
+
+pub returns-in_err-follow_mails-clause-cause : goal.returns-in_err-follow_mails-clause-cause
+returns-in_err-follow_mails-clause-cause g c =
+    let p = err_from_is_err_and c.from_residual-in_err-follow_mails.result c.from_residual-in_err-follow_mails.ensures.1 in
+    rw (p.1, p.2) (cause_since _ _ _ _ _ _ _ _ c.follow_mails.new.follower c.in_err-follow_mails.field-0.0 (λ x. x) (λ x. x) (λ x. x) (λ x. inl x) c.in_err-follow_mails.ensures.cause)

@@ -1,17 +1,20 @@
 use Rattle.std.proofs.Common.{◌≡◌, ◌∙◌, ℕ, None, Some, refl, ap, sym, subst}
 use Rattle.std.proofs.lemmas.Result.{err_from_is_err_and}
 use Rattle.mboxrd.specs.Reading as mbox
+use Rattle.steps_file.specs.Reading as steps
+use Rattle.outside.specs.Causes.{Rose}
 use Rattle.outside.specs.Moments.{LeavesOnly}
 use Rattle.state_store.specs.Commits.{fill_of}
 use Rattle.state_store.specs.Stands.{stands}
 use Rattle.state_store.proofs.Appending.{is_settled}
 use Rattle.follower.specs.Committing.{AllStand, Ends, Prefix, Stops, outset}
+use Rattle.follower.specs.Following.{IsFollowFault}
 use Rattle.follower.specs.Spending.{counts}
 use Rattle.follower.specs.Feed.{Feed, files_of, mails_feed, mails_left}
-use Rattle.follow.specs.Outcome.{TakesAll, changes, given_of, mbox_budget, mbox_found}
+use Rattle.follow.specs.Outcome.{Gave, GaveNone, Kept, changes, given_of, mbox_budget, mbox_found}
 use Rattle.follow.specs.Statuses.{refusal_of}
 use Rattle.follow.proofs.Followed.{begin_leaves, begin_stops, fits_same, follow_leaves, following_spends, goes_to_end, halts_stop, opening_spends, other_stops, own_state, passed_alone, traced_alone}
-use Rattle.follow.proofs.Replied.{cause_later, caused, other_cause, some_left, took_all, took_more, took_within}
+use Rattle.follow.proofs.Replied.{cause_later, caused, filled_or, kept_by, none_taken, other_cause, took_budget, took_gave, took_more, took_within}
 use Rattle.follow.proofs.following.follow_mbox.Goals as goal
 
 pub returns-in_err-follower-clause-goes : goal.returns-in_err-follower-clause-goes
@@ -165,7 +168,10 @@ returns-in_err-follower-clause-cause g c =
 pub returns-in_err-check_inputs-clause-cause : goal.returns-in_err-check_inputs-clause-cause
 returns-in_err-check_inputs-clause-cause g c =
     let p = err_from_is_err_and c.from_residual-in_err-check_inputs.result c.from_residual-in_err-check_inputs.ensures.1 in
-    rw (p.1, p.2) (other_cause _ _ _ _ _ c.args.me.now c.in_err-check_inputs.field-0.0 c.in_err-check_inputs.ensures.possible)
+    let left = g.M.Source.left in
+    let H = g.H.Shelf in
+    rw (p.1, p.2) (other_cause _ _ (Rose (H.faults c.args.shelf.now) (H.faults c.begin.new.shelf)) (Gave (left c.args.mbox.now) (left c.begin.new.mbox)) GaveNone
+    (Kept c.args.me.now (H.seen c.args.shelf.now)) c.args.me.now c.in_err-check_inputs.field-0.0 c.in_err-check_inputs.ensures.possible)
 
 pub returns-in_err-follow_mails_to_end-clause-cause : goal.returns-in_err-follow_mails_to_end-clause-cause
 returns-in_err-follow_mails_to_end-clause-cause g c =
@@ -180,10 +186,16 @@ returns-in_err-follow_mails_to_end-clause-cause g c =
     let new = c.follow_mails_to_end.new.follower in
     let why = c.in_err-follow_mails_to_end.field-0.0 in
     let took = took_more old mid after (mbox.buffered c.in_ok-follower.follower.mbox) (mbox.buffered new.mbox) mbox_budget began.mbox_took went.took in
-    let here = caused _ ⊥ _ (TakesAll old after mbox_budget) ⊥ new c.args.me.now why went.cause (λ all. took_all old after (mbox.buffered new.mbox) mbox_budget all took)
-    (λ all. some_left new.lines c.in_ok-follower.follower.lines went.lines began.lines.1 began.lines.2 all) in
-    rw (p.1, p.2) (cause_later (M.faults c.args.mbox.now) (M.faults c.begin.new.mbox) (M.faults c.follow_mails_to_end.new.mbox) ⊥
-    (H.faults c.args.shelf.now) (H.faults c.begin.new.shelf) (H.faults c.follow_mails_to_end.new.shelf) (TakesAll old after mbox_budget) ⊥ (refusal_of c.args.me.now why) began.mbox_later began.shelf_later here)
+    let me = c.args.me.now in
+    let seen = H.seen c.args.shelf.now in
+    let start = c.in_ok-follower.follower.keeper.state in
+    let mails = took_gave old after (mbox.buffered new.mbox) mbox_budget took in
+    let lines = none_taken new.lines c.in_ok-follower.follower.lines went.lines began.lines.1 in
+    let here = caused _ ⊥ _ _ (Gave old after) GaveNone (Kept me seen) new me mails lines (took_budget old after (mbox.buffered new.mbox) mbox_budget took)
+    (ap (λ (r : steps.Reading). r.budget) went.lines ∙ began.lines.2) (filled_or (Gave old after) GaveNone (Kept me seen) new start mails lines (kept_by me seen start began.opens))
+    why went.cause (λ input is. absurd (subst IsFollowFault is went.possible)) in
+    rw (p.1, p.2) (cause_later (Gave old after) GaveNone (Kept me seen) (refusal_of me why) (M.faults c.args.mbox.now) (M.faults c.begin.new.mbox) (M.faults c.follow_mails_to_end.new.mbox) ⊥
+    (H.faults c.args.shelf.now) (H.faults c.begin.new.shelf) (H.faults c.follow_mails_to_end.new.shelf) began.mbox_later began.shelf_later here)
 
 pub returns-in_err-follow_mails_to_end-clause-took : goal.returns-in_err-follow_mails_to_end-clause-took
 returns-in_err-follow_mails_to_end-clause-took g c =

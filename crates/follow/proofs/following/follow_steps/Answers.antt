@@ -1,4 +1,4 @@
-use Rattle.std.proofs.Common.{Some, refl, ap, sym, subst, ◌∙◌}
+use Rattle.std.proofs.Common.{Some, Ok, refl, ap, sym, subst, ◌∙◌}
 use Rattle.std.proofs.lemmas.Result.{err_from_is_err_and}
 use Rattle.mboxrd.specs.Reading as mbox
 use Rattle.outside.specs.Causes.{Rose}
@@ -8,15 +8,16 @@ use Rattle.state_store.specs.Stored.{IsStored}
 use Rattle.steps_file.specs.Reading as steps
 use Rattle.follower.specs.Committing.{AllStand}
 use Rattle.follower.specs.Feed.{files_of}
+use Rattle.follower.specs.Following.{IsFollowFault}
 use Rattle.follower.specs.Spending.{counts}
 use Rattle.keeper.specs.Keeping.{Keeping}
 use Rattle.state_store.specs.Stands.{stands}
 use Rattle.state_store.proofs.Appending.{is_settled}
-use Rattle.follow.specs.Outcome.{TakesAll, changes, given_of, mbox_budget, steps_budget, steps_found}
+use Rattle.follow.specs.Outcome.{Gave, GaveNone, Kept, changes, given_of, mbox_budget, steps_budget, steps_found}
 use Rattle.follow.specs.Replies.{Took}
 use Rattle.follow.specs.Statuses.{refusal_of}
 use Rattle.follow.proofs.Followed.{begin_leaves, begin_stops, both_begun, fits_same, follow_leaves, following_spends, goes_to_end, halts_stop, lines_begun, lines_fail, opening_spends, other_stops, own_state}
-use Rattle.follow.proofs.Replied.{cause_on, cause_since_all, caused, mbox_took_on, other_cause, steps_took_on, took_all, took_first, took_within}
+use Rattle.follow.proofs.Replied.{cause_on, cause_since_all, caused, filled_or, gave_none, kept_by, mbox_took_on, other_cause, steps_took_on, took_budget, took_first, took_gave, took_within}
 use Rattle.follow.proofs.following.follow_steps.Goals as goal
 
 pub returns-in_err-follower-clause-goes : goal.returns-in_err-follower-clause-goes
@@ -183,6 +184,17 @@ returns-clause-spends g c = λ bytes lines places next known told seen.
 
 -- ---- causes, and the bytes that were taken
 
+pub returns-in_err-follower-clause-cause : goal.returns-in_err-follower-clause-cause
+returns-in_err-follower-clause-cause g c =
+    let p = err_from_is_err_and c.from_residual.result c.from_residual.ensures.1 in
+    let M = g.M.Source in
+    let H = g.H.Shelf in
+    let mbox_gave = Gave (M.left c.args.mbox.now) (M.left c.begin.new.mbox) in
+    let lines = g.S.Source.left c.args.steps_file.now in
+    rw (p.1, p.2) (cause_on _ (Rose (M.faults c.args.mbox.now) (M.faults c.begin.new.mbox)) ⊥ _ _ (Rose (H.faults c.args.shelf.now) (H.faults c.begin.new.shelf))
+    mbox_gave mbox_gave GaveNone (Gave lines lines) (Kept c.args.me.now (H.seen c.args.shelf.now)) (λ x. x) (λ never. absurd never) (λ x. x) (λ X x. x) (gave_none lines)
+    (refusal_of c.args.me.now c.in_err-follower.field-0.0) c.in_err-follower.ensures.cause)
+
 pub returns-in_err-start_lines-clause-cause : goal.returns-in_err-start_lines-clause-cause
 returns-in_err-start_lines-clause-cause g c =
     let p = err_from_is_err_and c.from_residual-in_err-start_lines.result c.from_residual-in_err-start_lines.ensures.1 in
@@ -198,12 +210,15 @@ returns-in_err-start_lines-clause-cause g c =
     let mbox_after = M.left c.begin.new.mbox in
     let took = took_first old after (steps.buffered c.in_ok-follower.follower.lines) (steps.buffered new.lines) steps_budget began.lines.0 began.lines.1 began.lines.2 start.took in
     let rose = Rose (S.faults c.args.steps_file.now) (S.faults c.start_lines.new.steps_file) in
-    let here = caused ⊥ rose ⊥ (TakesAll mbox_old mbox_after mbox_budget) (TakesAll old after steps_budget) new c.args.me.now why start.cause
-    (λ all. took_all mbox_old mbox_after (mbox.buffered new.mbox) mbox_budget all
-    (subst (λ (r : mbox.Reading). Took mbox_old mbox_after mbox_budget (mbox.buffered r)) (sym start.mbox) began.mbox_took))
-    (λ all. took_all old after (steps.buffered new.lines) steps_budget all took) in
-    rw (p.1, p.2) (cause_on ⊥ _ rose rose ⊥ _ (TakesAll mbox_old mbox_after mbox_budget) (TakesAll mbox_old mbox_after mbox_budget) (TakesAll old after steps_budget) (TakesAll old after steps_budget)
-    (refusal_of c.args.me.now why) (λ never. absurd never) (λ x. x) (λ never. absurd never) (λ x. x) (λ x. x) here)
+    let me = c.args.me.now in
+    let seen = g.H.Shelf.seen c.args.shelf.now in
+    let mails = subst (λ (r : mbox.Reading). Took mbox_old mbox_after mbox_budget (mbox.buffered r)) (sym start.mbox) began.mbox_took in
+    let here = caused ⊥ rose ⊥ ⊥ (Gave mbox_old mbox_after) (Gave old after) (Kept me seen) new me (took_gave mbox_old mbox_after (mbox.buffered new.mbox) mbox_budget mails)
+    (took_gave old after (steps.buffered new.lines) steps_budget took) (took_budget mbox_old mbox_after (mbox.buffered new.mbox) mbox_budget mails)
+    (took_budget old after (steps.buffered new.lines) steps_budget took) (λ never. absurd never) why start.cause
+    (λ input is. kept_by me seen new.keeper.state (λ places told. began.opens places told ∙ ap (λ (k : Keeping). Ok k.state) (sym start.keeper))) in
+    rw (p.1, p.2) (cause_on ⊥ _ rose rose ⊥ _ (Gave mbox_old mbox_after) (Gave mbox_old mbox_after) (Gave old after) (Gave old after) (Kept me seen)
+    (λ never. absurd never) (λ x. x) (λ never. absurd never) (λ X x. x) (λ X x. x) (refusal_of me why) here)
 
 pub returns-in_err-start_lines-clause-steps_took : goal.returns-in_err-start_lines-clause-steps_took
 returns-in_err-start_lines-clause-steps_took g c =
@@ -217,7 +232,11 @@ returns-in_err-start_lines-clause-steps_took g c =
 pub returns-in_err-check_inputs-clause-cause : goal.returns-in_err-check_inputs-clause-cause
 returns-in_err-check_inputs-clause-cause g c =
     let p = err_from_is_err_and c.from_residual-in_err-check_inputs.result c.from_residual-in_err-check_inputs.ensures.1 in
-    rw (p.1, p.2) (other_cause _ _ _ _ _ c.args.me.now c.in_err-check_inputs.field-0.0 c.in_err-check_inputs.ensures.possible)
+    let M = g.M.Source in
+    let S = g.S.Source in
+    let H = g.H.Shelf in
+    rw (p.1, p.2) (other_cause _ _ (Rose (H.faults c.args.shelf.now) (H.faults c.begin.new.shelf)) (Gave (M.left c.args.mbox.now) (M.left c.begin.new.mbox))
+    (Gave (S.left c.args.steps_file.now) (S.left c.start_lines.new.steps_file)) (Kept c.args.me.now (H.seen c.args.shelf.now)) c.args.me.now c.in_err-check_inputs.field-0.0 c.in_err-check_inputs.ensures.possible)
 
 pub returns-in_err-check_inputs-clause-steps_took : goal.returns-in_err-check_inputs-clause-steps_took
 returns-in_err-check_inputs-clause-steps_took g c =
@@ -247,11 +266,23 @@ returns-in_err-follow_lines_to_end-clause-cause g c =
     let mails = mbox_took_on (M.left c.args.mbox.now) (M.left c.begin.new.mbox) (M.left c.follow_lines_to_end.new.mbox) c.in_ok-follower.follower c.start_lines.new.self new began.mbox_took start.mbox went.mbox_took in
     let lines = steps_took_on (S.left c.args.steps_file.now) (S.left c.start_lines.new.steps_file) (S.left c.follow_lines_to_end.new.steps_file) c.in_ok-follower.follower c.start_lines.new.self new
     (began.lines.0, began.lines.1, began.lines.2) start.took went.steps_took in
-    let here = caused _ _ _ (TakesAll (M.left c.args.mbox.now) (M.left c.follow_lines_to_end.new.mbox) mbox_budget) (TakesAll (S.left c.args.steps_file.now) (S.left c.follow_lines_to_end.new.steps_file) steps_budget)
-    new c.args.me.now why went.cause (λ all. took_all _ _ (mbox.buffered new.mbox) mbox_budget all mails) (λ all. took_all _ _ (steps.buffered new.lines) steps_budget all lines) in
-    rw (p.1, p.2) (cause_since_all (M.faults c.args.mbox.now) (M.faults c.begin.new.mbox) (M.faults c.follow_lines_to_end.new.mbox)
+    let me = c.args.me.now in
+    let seen = H.seen c.args.shelf.now in
+    let mbox_old = M.left c.args.mbox.now in
+    let mbox_after = M.left c.follow_lines_to_end.new.mbox in
+    let old = S.left c.args.steps_file.now in
+    let after = S.left c.follow_lines_to_end.new.steps_file in
+    let first = c.start_lines.new.self.keeper.state in
+    let mails_gave = took_gave mbox_old mbox_after (mbox.buffered new.mbox) mbox_budget mails in
+    let lines_gave = took_gave old after (steps.buffered new.lines) steps_budget lines in
+    let kept = kept_by me seen first (λ places told. began.opens places told ∙ ap (λ (k : Keeping). Ok k.state) (sym start.keeper)) in
+    let here = caused _ _ _ _ (Gave mbox_old mbox_after) (Gave old after) (Kept me seen) new me mails_gave lines_gave (took_budget mbox_old mbox_after (mbox.buffered new.mbox) mbox_budget mails)
+    (took_budget old after (steps.buffered new.lines) steps_budget lines) (filled_or (Gave mbox_old mbox_after) (Gave old after) (Kept me seen) new first mails_gave lines_gave kept)
+    why went.cause (λ input is. absurd (subst IsFollowFault is went.possible)) in
+    rw (p.1, p.2) (cause_since_all (Gave mbox_old mbox_after) (Gave old after) (Kept me seen) (refusal_of me why)
+    (M.faults c.args.mbox.now) (M.faults c.begin.new.mbox) (M.faults c.follow_lines_to_end.new.mbox)
     (S.faults c.args.steps_file.now) (S.faults c.start_lines.new.steps_file) (S.faults c.follow_lines_to_end.new.steps_file)
-    (H.faults c.args.shelf.now) (H.faults c.begin.new.shelf) (H.faults c.follow_lines_to_end.new.shelf) _ _ (refusal_of c.args.me.now why) began.mbox_later start.later began.shelf_later here)
+    (H.faults c.args.shelf.now) (H.faults c.begin.new.shelf) (H.faults c.follow_lines_to_end.new.shelf) began.mbox_later start.later began.shelf_later here)
 
 pub returns-in_err-follow_lines_to_end-clause-mbox_took : goal.returns-in_err-follow_lines_to_end-clause-mbox_took
 returns-in_err-follow_lines_to_end-clause-mbox_took g c =

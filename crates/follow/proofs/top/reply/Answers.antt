@@ -1,10 +1,13 @@
 use Rattle.std.proofs.Common.{rules, ◌≡◌, refl, sym, ◌∙◌, Some, arith}
 use Rattle.std.proofs.lemmas.Result.{err_from_is_err_and}
+use Rattle.outside.specs.Causes.{Rose}
 use Rattle.trial.specs.Summaries.{trial_text}
+use Rattle.follow.specs.Outcome.{Gave, KeptBy}
 use Rattle.follow.specs.Words.{request}
+use Rattle.follow.specs.declared.words.Command.TheVariants as command
 use Rattle.follow.proofs.Clocks.{ended_before}
 use Rattle.follow.proofs.Refused.{last_of_memory, last_of_usage, untouched_leaves}
-use Rattle.follow.proofs.Replied.{free_of_memory, trial_refused, trial_whole}
+use Rattle.follow.proofs.Replied.{free_of_memory, trial_cause, trial_refused, trial_whole}
 use Rattle.follow.proofs.top.reply.Goals as goal
 
 -- ---- memory ran out for the words
@@ -85,3 +88,21 @@ pub returns-in_ok-print_trial-in-Trial-clause-puts : goal.returns-in_ok-print_tr
 returns-in_ok-print_trial-in-Trial-clause-puts g c = λ found told.
     let read : request c.args.words.now ≡ Some c.in-Some.request = sym c.in_ok-request.ensures.value ∙ c.in-Some.is in
     rw (read, c.in-Trial.is) (trial_whole (trial_text c.in-Some.request.me c.in-Trial.number) _ _ tt tt c.in_ok-print_trial-in-Trial.ensures.puts)
+
+-- ---- causes
+
+pub returns-in-Ask-clause-cause : goal.returns-in-Ask-clause-cause
+returns-in-Ask-clause-cause g c =
+    let read : request c.args.words.now ≡ Some c.in-Some.request = sym c.in_ok-request.ensures.value ∙ c.in-Some.is in
+    rw (read, c.in-Ask.is) c.reply_to.ensures.cause
+
+pub returns-in_err-print_trial-in-Trial-clause-cause : goal.returns-in_err-print_trial-in-Trial-clause-cause
+returns-in_err-print_trial-in-Trial-clause-cause g c =
+    let p = err_from_is_err_and c.from_residual-in_err-print_trial-in-Trial.result c.from_residual-in_err-print_trial-in-Trial.ensures.1 in
+    let read : request c.args.words.now ≡ Some c.in-Some.request = sym c.in_ok-request.ensures.value ∙ c.in-Some.is in
+    let H = g.H.Shelf in
+    let shelf = c.args.shelf.now in
+    let mails = g.M.Source.left c.args.mbox.now in
+    let lines = g.S.Source.left c.args.steps_file.now in
+    rw (p.1, p.2, read, c.in-Trial.is) (trial_cause _ _ (Rose (H.faults shelf) (H.faults shelf)) (Gave mails mails) (Gave lines lines)
+    (KeptBy (command.Trial c.in-Trial.number) c.in-Some.request.me (H.seen shelf)) (λ X. tt) c.in_err-print_trial-in-Trial.field-0.0)

@@ -1,11 +1,12 @@
 use Rattle.std.proofs.Common.{Err, Ok, ap, refl, sym, subst}
 use Rattle.std.specs.Prelude.{Result}
 use Rattle.std.proofs.lemmas.Result.{err_from_is_err_and}
+use Rattle.outside.specs.Causes.{Rose}
 use Rattle.answers.specs.Answers as asked
 use Rattle.follower.specs.Reached.{Reached}
 use Rattle.follower.specs.Spending.{counts}
 use Rattle.mailbox_model.specs.Mailbox.{Mailbox}
-use Rattle.follow.specs.Outcome.{given_of, replied, result}
+use Rattle.follow.specs.Outcome.{Gave, Kept, given_of, replied, result}
 use Rattle.follow.specs.Replies.{Puts}
 use Rattle.follow.specs.Statuses.{answer_refusal}
 use Rattle.follow.specs.declared.status.Refusal.{Refusal}
@@ -74,7 +75,11 @@ returns-in_err-printed-in-Ok-clause-nothing g c =
 pub returns-in_err-printed-in-Ok-clause-cause : goal.returns-in_err-printed-in-Ok-clause-cause
 returns-in_err-printed-in-Ok-clause-cause g c =
     let p = err_from_is_err_and c.from_residual.result c.from_residual.ensures.1 in
-    rw (p.1, p.2) (no_cause _ _ _ _ _ c.in_err-printed-in-Ok.field-0.0)
+    let M = g.M.Source in
+    let S = g.S.Source in
+    let H = g.H.Shelf in
+    rw (p.1, p.2) (no_cause _ _ (Rose (H.faults c.args.shelf.now) (H.faults c.follow_files.new.shelf)) (Gave (M.left c.args.mbox.now) (M.left c.follow_files.new.mbox))
+    (Gave (S.left c.args.steps_file.now) (S.left c.follow_files.new.steps_file)) (Kept c.args.me (H.seen c.args.shelf.now)) c.in_err-printed-in-Ok.field-0.0)
 
 pub returns-in_err-printed-in-Ok-clause-no_usage : goal.returns-in_err-printed-in-Ok-clause-no_usage
 returns-in_err-printed-in-Ok-clause-no_usage g c =

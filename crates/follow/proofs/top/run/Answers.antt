@@ -1,9 +1,10 @@
 use Rattle.std.proofs.Common.{[], Some, refl, arith}
 use Rattle.outside.specs.Causes.{Rose}
-use Rattle.follow.specs.Outcome.{CauseOf, TakesAll, follows, mbox_budget, outcome, steps_budget}
+use Rattle.follow.specs.Outcome.{CauseOf, Gave, GaveNone, KeptFor, follows, mbox_budget, outcome, steps_budget}
 use Rattle.follow.specs.Words.{request}
 use Rattle.follow.specs.declared.status.Refusal.{Refusal}
-use Rattle.follow.proofs.Refused.{answered, not_all, not_all_steps, not_disk, not_endless, not_endless_at, not_read}
+use Rattle.follow.proofs.Refused.{answered, line_on, not_all, not_all_steps, not_disk, not_endless, not_endless_at, not_read}
+use Rattle.follow.proofs.Replied.{cause_on, none_gave}
 use Rattle.follow.proofs.WordReadings.{comes_unwritten}
 use Rattle.follow.proofs.top.run.Goals as goal
 
@@ -29,7 +30,7 @@ returns-in-Some-clause-complete g c = rw c.in-Some.is (λ found text told is few
     let steps_after = g.S.Source.left c.run_given.new.steps_file in
     let rose = Rose (g.K.Sink.faults c.args.out.now) (g.K.Sink.faults c.run_given.new.out) in
     let cause : Refusal → Type 0 = CauseOf (Rose (g.M.Source.faults c.args.mbox.now) (g.M.Source.faults c.run_given.new.mbox)) (Rose (g.S.Source.faults c.in-Some.steps_file.now) (g.S.Source.faults c.run_given.new.steps_file))
-    (Rose (g.H.Shelf.faults c.args.shelf.now) (g.H.Shelf.faults c.run_given.new.shelf)) (TakesAll mbox_left mbox_after mbox_budget) (TakesAll steps_left steps_after steps_budget) in
+    (Rose (g.H.Shelf.faults c.args.shelf.now) (g.H.Shelf.faults c.run_given.new.shelf)) (Gave mbox_left mbox_after) (Gave steps_left steps_after) (KeptFor (request c.args.words.now) (g.H.Shelf.seen c.args.shelf.now)) in
     answered old new rose (outcome c.args.words.now found) text c.run_given.result is (ran.status found told) (ran.answer found told)
     (not_read old new cause rose c.run_given.result ran.line no_mbox no_steps)
     (not_endless_at (follows (request c.args.words.now)) c.run_given.result (λ yes. not_endless old new cause rose c.run_given.result ran.line
@@ -51,6 +52,19 @@ returns-in-None-clause-usage g c = comes_unwritten _ _ _ c.run_given-in-None.ens
 pub returns-in-None-clause-status : goal.returns-in-None-clause-status
 returns-in-None-clause-status g c = rw c.in-None.is c.run_given-in-None.ensures.status
 
+pub returns-in-None-clause-line : goal.returns-in-None-clause-line
+returns-in-None-clause-line g c =
+    let ran = c.run_given-in-None in
+    let mbox = Rose (g.M.Source.faults c.args.mbox.now) (g.M.Source.faults ran.new.mbox) in
+    let shelf = Rose (g.H.Shelf.faults c.args.shelf.now) (g.H.Shelf.faults ran.new.shelf) in
+    let mails = Gave (g.M.Source.left c.args.mbox.now) (g.M.Source.left ran.new.mbox) in
+    let lines = Gave (Some []) (Some []) in
+    let kept = KeptFor (request c.args.words.now) (g.H.Shelf.seen c.args.shelf.now) in
+    rw c.in-None.is (line_on (g.K.Sink.held c.args.out.now) (g.K.Sink.held ran.new.out)
+    (CauseOf mbox (Rose 0 0) shelf mails lines kept) (CauseOf mbox ⊥ shelf mails GaveNone kept) (Rose (g.K.Sink.faults c.args.out.now) (g.K.Sink.faults ran.new.out))
+    (cause_on mbox mbox (Rose 0 0) ⊥ shelf shelf mails mails lines GaveNone kept (λ rose. rose) (λ none. omega (arith, none)) (λ rose. rose) (λ X gave. gave) none_gave)
+    ran.result ran.ensures.line)
+
 pub returns-in-None-clause-complete : goal.returns-in-None-clause-complete
 returns-in-None-clause-complete g c = rw c.in-None.is (λ found text told is few few_steps no_mbox no_out no_shelf no_steps.
     let ran = c.run_given-in-None.ensures in
@@ -60,7 +74,7 @@ returns-in-None-clause-complete g c = rw c.in-None.is (λ found text told is few
     let mbox_after = g.M.Source.left c.run_given-in-None.new.mbox in
     let rose = Rose (g.K.Sink.faults c.args.out.now) (g.K.Sink.faults c.run_given-in-None.new.out) in
     let cause : Refusal → Type 0 = CauseOf (Rose (g.M.Source.faults c.args.mbox.now) (g.M.Source.faults c.run_given-in-None.new.mbox)) (Rose 0 0)
-    (Rose (g.H.Shelf.faults c.args.shelf.now) (g.H.Shelf.faults c.run_given-in-None.new.shelf)) (TakesAll mbox_left mbox_after mbox_budget) (TakesAll (Some []) (Some []) steps_budget) in
+    (Rose (g.H.Shelf.faults c.args.shelf.now) (g.H.Shelf.faults c.run_given-in-None.new.shelf)) (Gave mbox_left mbox_after) (Gave (Some []) (Some [])) (KeptFor (request c.args.words.now) (g.H.Shelf.seen c.args.shelf.now)) in
     answered old new rose (outcome c.args.words.now found) text c.run_given-in-None.result is (ran.status found told) (ran.answer found told)
     (not_read old new cause rose c.run_given-in-None.result ran.line no_mbox (λ none. absurd (omega (arith, none))))
     (not_endless_at (follows (request c.args.words.now)) c.run_given-in-None.result (λ yes. not_endless old new cause rose c.run_given-in-None.result ran.line

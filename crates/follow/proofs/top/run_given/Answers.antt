@@ -1,6 +1,6 @@
 use Rattle.std.proofs.Common.{rules, ◌≡◌, Err, subst}
 use Rattle.outside.specs.Causes.{Rose}
-use Rattle.follow.specs.Outcome.{CauseOf, LastIf, TakesAll, given_in, mbox_budget, outcome, steps_budget}
+use Rattle.follow.specs.Outcome.{CauseOf, Gave, KeptFor, LastIf, given_in, outcome}
 use Rattle.follow.specs.Replies.{Puts}
 use Rattle.follow.specs.Statuses.{status_of}
 use Rattle.follow.specs.Words.{request}
@@ -65,7 +65,8 @@ returns-in-Err-2-clause-line g c =
     let other : c.in-Err.why ≡ refusal.Write → ⊥ = search rules in
     let K = g.K.Sink in
     let cause : Refusal → Type 0 = CauseOf (Rose (g.M.Source.faults c.args.mbox.now) (g.M.Source.faults c.reply.new.mbox)) (Rose (g.S.Source.faults c.args.steps_file.now) (g.S.Source.faults c.reply.new.steps_file))
-    (Rose (g.H.Shelf.faults c.args.shelf.now) (g.H.Shelf.faults c.reply.new.shelf)) (TakesAll (g.M.Source.left c.args.mbox.now) (g.M.Source.left c.reply.new.mbox) mbox_budget) (TakesAll (g.S.Source.left c.args.steps_file.now) (g.S.Source.left c.reply.new.steps_file) steps_budget) in
+    (Rose (g.H.Shelf.faults c.args.shelf.now) (g.H.Shelf.faults c.reply.new.shelf)) (Gave (g.M.Source.left c.args.mbox.now) (g.M.Source.left c.reply.new.mbox)) (Gave (g.S.Source.left c.args.steps_file.now) (g.S.Source.left c.reply.new.steps_file))
+    (KeptFor (request c.args.words.now) (g.H.Shelf.seen c.args.shelf.now)) in
     refused_line (K.held c.args.out.now) (K.held c.refuse.new.out) cause (Rose (K.faults c.args.out.now) (K.faults c.refuse.new.out)) c.in-Err.why c.refuse.result c.in-Err.ensures.cause tt
     (subst (λ before. PutsSaid (K.held before) (K.held c.refuse.new.out) (Rose (K.faults before) (K.faults c.refuse.new.out)) c.in-Err.why c.refuse.result) (c.in-Err.ensures.nothing other) c.refuse.ensures.line)
 

@@ -1,9 +1,9 @@
 use Rattle.std.proofs.lemmas.Result.{err_from_is_err_and}
-use Rattle.std.proofs.Common.{arith}
+use Rattle.std.proofs.Common.{arith, inr, refl}
 use Rattle.outside.proofs.Moments.{and_then}
 use Rattle.follower.specs.Committing.{LinesToCome, Prefix}
 use Rattle.follower.specs.Spending.{counts}
-use Rattle.follower.proofs.Going.{mbox_takes, mbox_takes_none, steps_takes, steps_takes_none}
+use Rattle.follower.proofs.Going.{fed_on, mbox_takes, mbox_takes_none, steps_takes, steps_takes_none}
 use Rattle.follower.proofs.Rounds.{applied, ended, nothing_leaves}
 use Rattle.follower.proofs.turns.follow_lines.Goals as goal
 
@@ -33,6 +33,7 @@ loop-preserved g c =
       shelf_later = omega (arith, past.shelf_later, round.shelf_later);
       mbox_took = mbox_takes (mails c.args.mbox.now) (mails c.loop.mbox) (mails new.mbox) c.args.follower.now.mbox c.loop.follower.mbox new.follower.mbox past.mbox_took round.mbox_took;
       steps_took = steps_takes (left c.args.steps_file.now) (left c.loop.steps_file) (left new.steps_file) c.args.follower.now.lines c.loop.follower.lines new.follower.lines past.steps_took round.steps_took;
+      fed = fed_on c.args.follower.now.keeper.state c.loop.follower new.follower (omega (arith, round.steps_took.1.taken)) past.fed round.fed;
       goes = λ files last start feed on.
           let first = past.goes files last start feed on in
           let second = round.goes files last start feed first.1 in (
@@ -85,9 +86,15 @@ loop-init g c =
       steps_later = omega arith;
       shelf_later = omega arith;
       mbox_took = mbox_takes_none (g.M.Source.left c.args.mbox.now) c.args.follower.now.mbox;
+      fed = inr refl;
       steps_took = steps_takes_none (g.S.Source.left c.args.steps_file.now) c.args.follower.now.lines;
       goes = λ files last start feed on. (
         nothing_leaves H.moment H.left_since H.seen H.may_leave start feed on.others c.args.follower.now.keeper (counts c.args.steps.now (H.written shelf)) shelf (g.met.H.Shelf.only_now shelf) on.known c.requires.stored,
         on,
       );
     }
+
+pub returns-in-End-clause-fed : goal.returns-in-End-clause-fed
+returns-in-End-clause-fed g c =
+    let round = c.in_ok-round_of_line.ensures in
+    fed_on c.args.follower.now.keeper.state c.loop.follower c.round_of_line.new.follower (omega (arith, round.steps_took.1.taken)) c.loop.invariant.fed round.fed

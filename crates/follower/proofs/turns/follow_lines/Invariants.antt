@@ -6,6 +6,7 @@ use Rattle.steps_file.specs.Reading as steps_reading
 use Rattle.state_store.specs.States.{max_changes}
 use Rattle.keeper.specs.Keeping.{IsKept}
 use Rattle.follower.specs.Committing.{LinesToCome, OnWay, Outset, Prefix}
+use Rattle.follower.specs.Following.{IsFedFrom}
 use Rattle.follower.specs.Spending.{counts}
 use Rattle.follower.specs.Feed.{Feed, Files}
 use Rattle.follower.proofs.turns.follow_lines.Given as goal
@@ -22,6 +23,7 @@ invariant-loop g l = record {
   shelf_later : g.H.Shelf.faults l.fn.shelf ≤ g.H.Shelf.faults l.shelf;
   mbox_took : (bytes : List ℕ) × mbox_reading.Takes (g.M.Source.left l.fn.mbox) (g.M.Source.left l.mbox) l.fn.follower.mbox l.follower.mbox bytes;
   steps_took : (bytes : List ℕ) × steps_reading.Takes (g.S.Source.left l.fn.steps_file) (g.S.Source.left l.steps_file) l.fn.follower.lines l.follower.lines bytes;
+  fed : IsFedFrom l.fn.follower.keeper.state l.follower;
   goes : (files : Files) (last : Option ℕ) (start : Outset) (feed : Feed)
       → OnWay start feed (LinesToCome files last l.fn.follower (g.M.Source.left l.fn.mbox) (g.S.Source.left l.fn.steps_file)) l.fn.follower.keeper
       (counts l.fn.steps (g.H.Shelf.written l.fn.shelf)) (g.H.Shelf.seen l.fn.shelf)

@@ -3,6 +3,7 @@ use Rattle.std.proofs.lemmas.Result.{err_from_is_err_and}
 use Rattle.state_store.specs.States.{State}
 use Rattle.follower.specs.Feed.{last_fed}
 use Rattle.follower.specs.Spending.{counts}
+use Rattle.follower.proofs.Going.{at_caused}
 use Rattle.follower.proofs.Rounds.{free_stop, last_goes, no_last, nothing_leaves, still_stored}
 use Rattle.follower.proofs.turns.make_last.Goals as goal
 
@@ -47,3 +48,8 @@ returns-in_default-clause-goes g c = λ start feed on.
     none : (o : Option ℕ) → ((n : ℕ) → o ≡ Some n → ⊥) → o ≡ None
     none None never = refl
     none (Some n) never = absurd (never n refl)
+
+pub returns-clause-cause : goal.returns-clause-cause
+returns-clause-cause g c =
+    at_caused _ _ _ c.args.follower.now.keeper.state c.commit_if_full.new.follower.keeper.state c.at.new.self c.in-Some.moment c.at.result c.in_ok-commit_if_full.ensures.state
+    c.at.ensures.cause c.at.ensures.full

@@ -1,5 +1,9 @@
+use Rattle.std.proofs.Common.{subst}
+use Rattle.std.specs.Prelude.{OnOk}
 use Rattle.std.proofs.lemmas.Result.{err_from_is_err_and}
+use Rattle.state_store.specs.States.{State}
 use Rattle.follower.specs.Committing.{LinesToCome}
+use Rattle.follower.specs.Following.{IsFedFrom}
 use Rattle.follower.specs.Spending.{counts}
 use Rattle.follower.proofs.Rounds.{free_stop, line_costs, line_turn, lines_same, round_goes, still_stored}
 use Rattle.follower.proofs.turns.round_of_line.Goals as goal
@@ -37,3 +41,7 @@ returns-clause-stored g c =
     let H = g.H.Shelf in
     let shelf = c.commit_if_full.new.shelf in
     still_stored c.turn_line.result (H.seen shelf) (H.may_leave shelf) c.commit_if_full.new.follower.keeper c.turn_line.new.self.keeper c.turn_line.ensures.store c.in_ok-commit_if_full.ensures.stored
+
+pub returns-clause-fed : goal.returns-clause-fed
+returns-clause-fed g c =
+    subst (λ (s : State). OnOk c.turn_line.result (IsFedFrom s c.turn_line.new.self)) c.in_ok-commit_if_full.ensures.state c.turn_line.ensures.fed

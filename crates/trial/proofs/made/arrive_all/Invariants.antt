@@ -1,5 +1,5 @@
 use Rattle.std.proofs.Common.{◌≡◌, ◌≤◌, ◌+◌, false, length}
-use Rattle.arrivals.specs.Costs.{change_costs}
+use Rattle.touched_chats.specs.Costs.{change_costs}
 use Rattle.trial.specs.Trials.{after_allowed, arrivals}
 use Rattle.trial.proofs.made.arrive_all.Given as goal
 

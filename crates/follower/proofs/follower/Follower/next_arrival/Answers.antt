@@ -2,7 +2,7 @@ use Rattle.std.proofs.Common.{ap, ◌∙◌}
 use Rattle.mailbox_model.specs.Mailbox.{Mailbox}
 use Rattle.arrivals.specs.Arrivals.{arrival_taken}
 use Rattle.follower.specs.Following.{Following}
-use Rattle.follower.proofs.Turning.{next_known, next_stands}
+use Rattle.follower.proofs.Turning.{next_known, next_stands, no_arrival}
 use Rattle.follower.proofs.follower.Follower.next_arrival.Goals as goal
 
 pub returns-clause-next : goal.returns-clause-next
@@ -28,3 +28,7 @@ returns-clause-stands g c =
     } in
     next_stands (g.M.Source.left c.args.mbox.now) (g.M.Source.left c.next.new.source) c.args.self.now now c.self.inside.mbox c.next_uid-uid.result c.in_ok-taken.taken c.in_ok-arrival_of.field-0
     (ap (λ (f : Following). f.mbox) c.self.view_is) c.in_ok-arrival_of.ensures.change c.in_ok-taken.ensures.position c.in_ok-taken.ensures.traced
+
+pub returns-clause-given : goal.returns-clause-given
+returns-clause-given g c = λ some.
+    c.in_ok-taken.ensures.given (λ end. no_arrival c.next_uid-uid.result c.in_ok-taken.taken c.in_ok-arrival_of.field-0 end c.in_ok-arrival_of.ensures.change some)

@@ -1,12 +1,15 @@
 use Rattle.std.proofs.lemmas.Result.{err_from_is_err_and}
-use Rattle.std.proofs.Common.{◌≡◌, ◌≤◌, ◌+◌, ℕ, List, Err, true, false, ap, subst, sym, ◌∙◌}
+use Rattle.std.proofs.Common.{◌≡◌, ◌≤◌, ◌+◌, ℕ, List, Err, true, false, inl, inr, ap, subst, sym, ◌∙◌, arith}
 use Rattle.keeper.specs.Keeping.{after_change, is_refused}
 use Rattle.tail_journal.specs.Pending.{with_change}
 use Rattle.mboxrd.specs.Reading as mbox_reading
 use Rattle.follower.specs.Feed.{counted}
-use Rattle.follower.specs.Following.{Following}
+use Rattle.state_image.specs.declared.position.Position.{Position}
+use Rattle.state_store.specs.States.{IsWithin}
+use Rattle.follower.specs.Following.{Following, keep_fault}
 use Rattle.touched_chats.specs.Costs.{change_cost}
-use Rattle.follower.proofs.Turning.{keep_cause, keep_full, line_reads, line_stops, line_turns, lines_known, made_reads, none_reads, tried_reads}
+use Rattle.follower.proofs.Going.{full_caused}
+use Rattle.follower.proofs.Turning.{bare_no_end, keep_cause, keep_full, line_reads, line_stops, line_taken, line_turns, step_no_end, lines_known, made_reads, none_reads, tried_reads}
 use Rattle.follower.proofs.follower.Follower.turn_line.Goals as goal
 
 pub returns-in_err-change-clause-mbox_took : goal.returns-in_err-change-clause-mbox_took
@@ -112,3 +115,56 @@ returns-clause-reads g c =
     let keeper = λ (f : Following). f.keeper in
     let same = ap keeper c.self-2.view_is ∙ ap keeper c.in_ok-change.ensures.rest ∙ ap keeper c.self.view_is in
     made_reads c.args.self.now.keeper c.self-2.inside.keeper c.apply.new.self c.in_ok-change.change c.in_ok-change.position c.args.steps.now c.apply.new.steps same c.in_ok-apply.ensures.state c.in_ok-apply.ensures.cost
+
+-- ---- whatever the files tell
+
+pub change_of-requires-clause-counted : goal.change_of-requires-clause-counted
+change_of-requires-clause-counted g c =
+    let old : Following = record { keeper = c.self.inside.keeper; mbox = c.self.inside.mbox; lines = c.self.inside.lines; failed = c.self.inside.failed } in
+    let place = ap (λ (f : Following). f.lines.place) c.self.view_is ∙ c.requires.place ∙ sym (ap (λ (f : Following). f.keeper.state.position.steps) c.self.view_is) in
+    let within = subst IsWithin c.position-position.ensures.value c.position-position.ensures.within in
+    let taken = line_taken old c.next.new.self place (c.in_ok-step.ensures.passed (step_no_end c.in_ok-step.field-0 c.in-Step.step c.in-Step.is)) c.in_ok-step.ensures.within within in
+    omega (
+      arith,
+      taken,
+      ap (λ (p : Position). p.lines) c.at_line-position.ensures,
+      ap (λ (p : Position). p.lines) c.counted.ensures,
+      ap (λ (p : Position). p.lines) c.position-position.ensures.value,
+    )
+
+pub returns-in-NoStep-clause-cause : goal.returns-in-NoStep-clause-cause
+returns-in-NoStep-clause-cause g c =
+    let old : Following = record { keeper = c.self.inside.keeper; mbox = c.self.inside.mbox; lines = c.self.inside.lines; failed = c.self.inside.failed } in
+    let place = ap (λ (f : Following). f.lines.place) c.self.view_is ∙ c.requires.place ∙ sym (ap (λ (f : Following). f.keeper.state.position.steps) c.self.view_is) in
+    let within = subst IsWithin c.position-position.ensures.value c.position-position.ensures.within in
+    let taken = line_taken old c.next.new.self place (c.in_ok-step.ensures.passed (bare_no_end c.in_ok-step.field-0 c.in-NoStep.is)) c.in_ok-step.ensures.within within in
+    omega (
+      arith,
+      taken,
+      ap (λ (p : Position). p.lines) c.at_line.ensures,
+      ap (λ (p : Position). p.lines) c.position-position.ensures.value,
+    )
+
+pub returns-in_err-apply-clause-cause : goal.returns-in_err-apply-clause-cause
+returns-in_err-apply-clause-cause g c =
+    let p = err_from_is_err_and c.from_residual-in_err-apply.result c.from_residual-in_err-apply.ensures.1 in
+    let why = c.in_err-apply.field-0.0 in
+    let old : Following = record { keeper = c.self.inside.keeper; mbox = c.self.inside.mbox; lines = c.self.inside.lines; failed = c.self.inside.failed } in
+    let place = ap (λ (f : Following). f.lines.place) c.self.view_is ∙ c.requires.place ∙ sym (ap (λ (f : Following). f.keeper.state.position.steps) c.self.view_is) in
+    let within = subst IsWithin c.position-position.ensures.value c.position-position.ensures.within in
+    let taken = line_taken old c.next.new.self place (c.in_ok-step.ensures.passed (step_no_end c.in_ok-step.field-0 c.in-Step.step c.in-Step.is)) c.in_ok-step.ensures.within within in
+    let same = ap (λ (f : Following). f.lines.taken) c.self-2.view_is ∙ ap (λ (f : Following). f.lines.taken) c.in_ok-change.ensures.rest in
+    let new : Following = record { keeper = c.apply.new.self; mbox = c.self-2.inside.mbox; lines = c.self-2.inside.lines; failed = true } in
+    rw (p.1, p.2) (full_caused _ _ _ _ new (keep_fault why) (keep_cause why c.in_err-apply.ensures.cause) (λ _. inr (omega (arith, taken, same))))
+
+pub returns-clause-fed : goal.returns-clause-fed
+returns-clause-fed g c =
+    let old : Following = record { keeper = c.self.inside.keeper; mbox = c.self.inside.mbox; lines = c.self.inside.lines; failed = c.self.inside.failed } in
+    let place = ap (λ (f : Following). f.lines.place) c.self.view_is ∙ c.requires.place ∙ sym (ap (λ (f : Following). f.keeper.state.position.steps) c.self.view_is) in
+    let within = subst IsWithin c.position-position.ensures.value c.position-position.ensures.within in
+    let taken = line_taken old c.next.new.self place (c.in_ok-step.ensures.passed (step_no_end c.in_ok-step.field-0 c.in-Step.step c.in-Step.is)) c.in_ok-step.ensures.within within in
+    let same = ap (λ (f : Following). f.lines.taken) c.self-2.view_is ∙ ap (λ (f : Following). f.lines.taken) c.in_ok-change.ensures.rest in
+    inl (omega (arith, taken, same))
+
+pub returns-in-End-clause-fed : goal.returns-in-End-clause-fed
+returns-in-End-clause-fed g c = inr (ap (λ (f : Following). f.keeper.state) c.self.view_is)

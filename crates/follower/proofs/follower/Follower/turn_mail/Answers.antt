@@ -1,5 +1,5 @@
 use Rattle.std.proofs.lemmas.Result.{err_from_is_err_and}
-use Rattle.std.proofs.Common.{◌≡◌, ◌≤◌, ◌+◌, None, Err, true, false, ap, subst, sym, ◌∙◌}
+use Rattle.std.proofs.Common.{◌≡◌, ◌≤◌, ◌+◌, None, Err, true, false, inl, ap, subst, sym, ◌∙◌, arith}
 use Rattle.std.specs.Prelude.{⊤, is_some}
 use Rattle.kit.specs.Chains.{value_of}
 use Rattle.mboxrd.specs.Reading.{Reading}
@@ -11,6 +11,7 @@ use Rattle.follower.specs.Following.{Following, StandsInMbox, keep_fault, to_com
 use Rattle.follower.specs.Going.{MakesFirst, StopsAt}
 use Rattle.follower.specs.Spending.{next_cost}
 use Rattle.touched_chats.specs.Costs.{change_cost}
+use Rattle.follower.proofs.Going.{full_caused}
 use Rattle.follower.proofs.Turning.{keep_cause, keep_full, made_reads, mail_reads, mail_stops, mail_turns, none_reads, tried_reads}
 use Rattle.follower.proofs.follower.Follower.turn_mail.Goals as goal
 
@@ -82,3 +83,12 @@ returns-clause-reads g c =
     let keeper = λ (f : Following). f.keeper in
     let same = ap keeper c.self-2.view_is ∙ ap keeper c.in_ok-change.ensures.rest ∙ ap keeper c.self.view_is in
     made_reads c.args.self.now.keeper c.self-2.inside.keeper c.apply.new.self c.in-Some.change c.at_mail-position.result c.args.steps.now c.apply.new.steps same c.in_ok-apply.ensures.state c.in_ok-apply.ensures.cost
+
+pub returns-in_err-apply-clause-cause : goal.returns-in_err-apply-clause-cause
+returns-in_err-apply-clause-cause g c =
+    let p = err_from_is_err_and c.from_residual-in_err-apply.result c.from_residual-in_err-apply.ensures.1 in
+    let why = c.in_err-apply.field-0.0 in
+    let given = c.in_ok-change.ensures.given (ap is_some c.in-Some.is) in
+    let new : Following = record { keeper = c.apply.new.self; mbox = c.self-2.inside.mbox; lines = c.self-2.inside.lines; failed = true } in
+    rw (p.1, p.2) (full_caused _ _ _ _ new (keep_fault why) (keep_cause why c.in_err-apply.ensures.cause)
+    (λ _. inl (omega (arith, given, ap (λ (f : Following). f.mbox.taken) c.self-2.view_is))))

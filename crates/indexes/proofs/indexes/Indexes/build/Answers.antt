@@ -1,14 +1,17 @@
 use Rattle.std.proofs.Common.{ap, ◌∙◌, arith}
 use Rattle.std.specs.FinMap as map_of
 use Rattle.indexes.specs.Kept.{deadline_at}
-use Rattle.indexes.proofs.Loads.{few_present, few_contents}
+use Rattle.indexes.proofs.Loads.{few_present, few_contents, rows_read}
 use Rattle.indexes.proofs.indexes.Indexes.build.Goals as goal
 
 pub add_cards-requires-clause-none : goal.add_cards-requires-clause-none
 add_cards-requires-clause-none g c = c.new-indexes.ensures.cards c.args.mailbox.now.mailbox.me
 
 pub returns-in_err-add_cards-clause-cost : goal.returns-in_err-add_cards-clause-cost
-returns-in_err-add_cards-clause-cost g c =
+returns-in_err-add_cards-clause-cost g c = omega (arith, c.in_err-add_cards.ensures.cost)
+
+pub returns-in_err-add_cards-clause-load : goal.returns-in_err-add_cards-clause-load
+returns-in_err-add_cards-clause-load g c =
     omega (arith, c.in_err-add_cards.ensures.cost, few_present c.args.mailbox.now.mailbox)
 
 pub add_rows-requires-clause-no_states : goal.add_rows-requires-clause-no_states
@@ -21,15 +24,27 @@ add_rows-requires-clause-no_deadlines g c uid =
 
 pub returns-in_err-add_rows-clause-cost : goal.returns-in_err-add_rows-clause-cost
 returns-in_err-add_rows-clause-cost g c =
+    omega (arith, c.in_err-add_rows.ensures.cost, c.in_ok-add_cards.ensures.cost, rows_read c.args.mailbox.now.mailbox)
+
+pub returns-in_err-add_rows-clause-load : goal.returns-in_err-add_rows-clause-load
+returns-in_err-add_rows-clause-load g c =
     let m = c.args.mailbox.now.mailbox in
     omega (arith, c.in_err-add_rows.ensures.cost, c.in_ok-add_cards.ensures.cost, few_present m, few_contents m)
 
 pub returns-in_err-indexes-clause-cost : goal.returns-in_err-indexes-clause-cost
 returns-in_err-indexes-clause-cost g c =
+    omega (arith, c.in_ok-add_rows.ensures.cost, c.in_ok-add_cards.ensures.cost, rows_read c.args.mailbox.now.mailbox)
+
+pub returns-in_err-indexes-clause-load : goal.returns-in_err-indexes-clause-load
+returns-in_err-indexes-clause-load g c =
     let m = c.args.mailbox.now.mailbox in
     omega (arith, c.in_ok-add_rows.ensures.cost, c.in_ok-add_cards.ensures.cost, few_present m, few_contents m)
 
 pub returns-clause-cost : goal.returns-clause-cost
 returns-clause-cost g c =
+    omega (arith, c.in_ok-add_rows.ensures.cost, c.in_ok-add_cards.ensures.cost, rows_read c.args.mailbox.now.mailbox)
+
+pub returns-clause-load : goal.returns-clause-load
+returns-clause-load g c =
     let m = c.args.mailbox.now.mailbox in
     omega (arith, c.in_ok-add_rows.ensures.cost, c.in_ok-add_cards.ensures.cost, few_present m, few_contents m)

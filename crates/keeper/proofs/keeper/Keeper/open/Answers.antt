@@ -1,14 +1,14 @@
-use Rattle.std.proofs.Common.{◌≡◌, Ok, sym, ◌∙◌, ap, arith}
+use Rattle.std.proofs.Common.{Ok, sym, ◌∙◌, ap, arith}
 use Rattle.std.proofs.lemmas.Result.{err_from_is_err_and}
 use Rattle.outside.specs.Moments.{WhereKnown}
 use Rattle.mailbox_model.specs.Mailbox.{Mailbox}
 use Rattle.box_state.specs.Kept.{Kept}
-use Rattle.indexes.specs.Costs.{load}
+use Rattle.touched_chats.specs.Costs.{build_reads}
 use Rattle.state_store.specs.Stored.{state_in}
-use Rattle.state_store.specs.Stands.{stands}
+use Rattle.state_store.specs.Stands.{found_of, stands}
 use Rattle.keeper.specs.Keeping.{Keeping}
-use Rattle.keeper.specs.Opening.{AllFindSame, load_of}
-use Rattle.keeper.proofs.Opened.{all_find_same, cause_of, on_other, opened_is_kept, others_stand}
+use Rattle.keeper.specs.Opening.{AllFindSame}
+use Rattle.keeper.proofs.Opened.{all_find_same, cause_of, on_other, opened_is_kept, opening_fits, others_stand, own_not_full, state_not_full}
 use Rattle.keeper.proofs.keeper.Keeper.open.Goals as goal
 
 pub returns-in_err-store-clause-opens : goal.returns-in_err-store-clause-opens
@@ -52,14 +52,22 @@ returns-clause-kept g c =
 
 pub returns-in_err-engine-clause-cost : goal.returns-in_err-engine-clause-cost
 returns-in_err-engine-clause-cost g c places is =
-    let opened = c.in_ok-store.field-0 in
-    let stood : load_of (stands c.args.me.now places) ≡ load opened.mailbox.mailbox = ap load_of (c.in_ok-store.ensures.gives places is) in
-    let own = ap (λ (k : Kept). load k.mailbox) c.in_ok-own.ensures.same in
-    omega (arith, stood, own, c.from_mailbox.ensures.cost)
+    let read = ap (λ (k : Kept). build_reads k.mailbox) c.in_ok-own.ensures.same in
+    opening_fits c.args.me.now (found_of places) (state_in c.in_ok-store.field-0) c.args.steps.now c.from_mailbox.new.steps
+    (c.in_ok-store.ensures.gives places is) (c.in_ok-store.ensures.comes places is) (omega (arith, read, c.from_mailbox.ensures.reads))
 
 pub returns-clause-cost : goal.returns-clause-cost
 returns-clause-cost g c places is =
-    let opened = c.in_ok-store.field-0 in
-    let stood : load_of (stands c.args.me.now places) ≡ load opened.mailbox.mailbox = ap load_of (c.in_ok-store.ensures.gives places is) in
-    let own = ap (λ (k : Kept). load k.mailbox) c.in_ok-own.ensures.same in
-    omega (arith, stood, own, c.from_mailbox.ensures.cost)
+    let read = ap (λ (k : Kept). build_reads k.mailbox) c.in_ok-own.ensures.same in
+    opening_fits c.args.me.now (found_of places) (state_in c.in_ok-store.field-0) c.args.steps.now c.from_mailbox.new.steps
+    (c.in_ok-store.ensures.gives places is) (c.in_ok-store.ensures.comes places is) (omega (arith, read, c.from_mailbox.ensures.reads))
+
+pub returns-in_err-store-clause-not_full : goal.returns-in_err-store-clause-not_full
+returns-in_err-store-clause-not_full g c =
+    let p = err_from_is_err_and c.from_residual.result c.from_residual.ensures.1 in
+    rw (p.1, p.2) (state_not_full c.in_err-store.field-0.0)
+
+pub returns-in_err-own-clause-not_full : goal.returns-in_err-own-clause-not_full
+returns-in_err-own-clause-not_full g c =
+    let p = err_from_is_err_and c.from_residual-in_err-own.result c.from_residual-in_err-own.ensures.1 in
+    rw (p.1, p.2) (own_not_full c.args.me.now c.in_ok-store.field-0.mailbox.mailbox c.in_err-own.field-0.0 c.in_err-own.ensures.other)

@@ -4,7 +4,7 @@ use Rattle.mboxrd.specs.declared.taken.Taken.TheVariants as taken
 use Rattle.source_buffer.proofs.Positions.{at_position}
 use Rattle.source_buffer.proofs.Taking.{BufferTakes_more, holds_rest_more}
 use Rattle.mboxrd.specs.Reading.{buffered}
-use Rattle.mboxrd.proofs.Answered.{both_most, answers_long, answers_mail, answer_known}
+use Rattle.mboxrd.proofs.Answered.{both_most, answers_long, answers_mail, answer_known, given_some}
 use Rattle.mboxrd.proofs.Tracing.{goes_more, stays_traced, traced_both}
 use Rattle.mboxrd.proofs.reader.MboxReader.next.Goals as goal
 
@@ -86,3 +86,13 @@ returns-clause-traced g c =
     let w = returns-clause-took g c in
     traced_both _ (g.S.Source.left c.args.source.now) (g.S.Source.left c.read_mail.new.source) c.args.self.now c.read_mail.new.self
     (stays_traced (g.S.Source.left c.args.source.now) (g.S.Source.left c.read_mail.new.source) c.args.self.now c.read_mail.new.self w.0 c.in_ok-found.ensures.before c.in_ok-bytes.ensures.fewer w.1 w.2.2 c.in_ok-bytes.ensures.place)
+
+pub returns-then-len-gt-MAX_MAIL_LEN-clause-given : goal.returns-then-len-gt-MAX_MAIL_LEN-clause-given
+returns-then-len-gt-MAX_MAIL_LEN-clause-given g c = λ some.
+    let w = returns-then-len-gt-MAX_MAIL_LEN-clause-took g c in
+    given_some c.args.self.now c.read_mail.new.self w.0 taken.TooLong some w.2.0 c.in_ok-found.ensures.before w.1.taken
+
+pub returns-clause-given : goal.returns-clause-given
+returns-clause-given g c = λ some.
+    let w = returns-clause-took g c in
+    given_some c.args.self.now c.read_mail.new.self w.0 (taken.Mail c.in_ok-bytes.bytes) some w.2.0 c.in_ok-found.ensures.before w.1.taken

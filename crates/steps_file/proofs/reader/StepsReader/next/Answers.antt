@@ -68,6 +68,15 @@ returns-clause-passed g c = λ line.
     let one = subst (λ b. IsLineAt b t.2.0) c.if-not-ended.false t.2.3 in
     omega (arith, h.0, c.position-start.ensures, c.position.ensures, ap (λ (r : Reading). r.place) c.self.view_is, one)
 
+pub returns-clause-within : goal.returns-clause-within
+returns-clause-within g c = omega (arith, invariant_of-self-2 g c)
+
+pub returns-then-not-ended-clause-within : goal.returns-then-not-ended-clause-within
+returns-then-not-ended-clause-within g c =
+    let t = c.in_ok-ended.ensures.took in
+    let taken = t.1.taken in
+    omega (arith, c.self.invariant, taken)
+
 pub returns-clause-end : goal.returns-clause-end
 returns-clause-end g c = λ e. absurd (no_end (step_of (content c.bytes.result.now)) (sym c.answer_of.ensures ∙ e))
 
