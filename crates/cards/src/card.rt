@@ -25,7 +25,8 @@ pub fn add_weight(said: &mut Vec<u8>, alloc: Global, mail: &[u8]) -> Result<(), 
     }
 }
 
-fn add_fault(said: &mut Vec<u8>, fault: CardFault) -> Result<(), Memory> {
+/// Adds why a mail has no card.
+pub fn add_fault(said: &mut Vec<u8>, fault: CardFault) -> Result<(), Memory> {
     match fault {
         CardFault::NoFields => add_word(said, "no card: no fields"),
         CardFault::NoFrom => add_word(said, "no card: no From"),

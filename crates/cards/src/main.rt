@@ -1,5 +1,5 @@
 //! The program `cards`: it plays scripts of what the readers of a mail are given, and prints each script with what they
-//! give.
+//! give. `written` writes a mail from the card of another one, and reads it back.
 //!
 //! A line of a script is a command and its input, as `date 1 May 2024 10:00`. A command that stands alone takes the lines
 //! up to a dot as its input. In an input on the same line `\n`, `\r`, `\t`, `\\` and `\` with two digits are bytes that
@@ -21,6 +21,7 @@ mod trees;
 mod types;
 mod updates;
 mod values;
+mod written;
 
 use crate::play::play;
 use crate::stage::Stage;

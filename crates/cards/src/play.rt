@@ -11,6 +11,7 @@ use crate::trees::add_tree;
 use crate::types::{add_disposition, add_param, add_type};
 use crate::updates::{add_receipt, add_updates};
 use crate::values::{add_copy, add_line_ends, add_lowered, add_same};
+use crate::written::add_written;
 use kit::Memory;
 use scripts::{block, first_line, first_word, unescaped};
 use std::alloc::Global;
@@ -105,6 +106,7 @@ fn answer(
         b"steps" => add_read(said, alloc, reading, Reader::Steps, input),
         b"card" => add_card_of(said, alloc, 4, input),
         b"weight" => add_weight(said, alloc, input),
+        b"written" => add_written(said, alloc, input),
         b"tree" => add_tree(said, alloc, input),
         b"updates" => add_updates(said, alloc, input),
         b"receipt" => add_receipt(said, alloc, input),
